@@ -1,4 +1,4 @@
--- What is known of the writer behind a `Blocks`.
+-- The contents of the inner writer of a `Blocks`.
 use Rattle.std.proofs.Common.{◌≡◌, ℕ, ◌+◌, ◌-◌, ◌^◌, ◌<◌, ◌≤◌, min, false, List, [], ◌∷◌, ◌++◌, length, take, drop, None, Some, IfSome, Result, Ok, Err, MatchResult, IfErr, sym, ap, subst, ◌∙◌, arith, append-nil, length-append}
 use Rattle.std.specs.Prelude.{Option, OnOk}
 use Rattle.std.specs.Result.{is_err, IsErrAnd}
@@ -11,7 +11,7 @@ use Rattle.counted_writer.specs.PutsLaws.{appends_then}
 use Rattle.block_writer.specs.Blocks.{named_contents}
 use Rattle.block_writer.specs.Sends.{Sends}
 
--- where one list is split in two ways
+-- a list that is split in two ways
 splits_same : (ys waits xs zs : List ℕ) (sent : ℕ) → ys ++ waits ≡ xs ++ zs → length ys ≡ length xs + sent
     → (ys ≡ xs ++ take sent zs) × (waits ≡ drop sent zs)
 splits_same ys waits xs zs sent same long = (
@@ -29,7 +29,7 @@ taken_within : {a b : Option (List ℕ)} {bytes : List ℕ} (r : Result ℕ Shor
 taken_within (Ok count) p = let ends = p.ends in omega arith
 taken_within (Err short) p = let ends = p.ends in omega arith
 
--- the sum of what was sent and what waits, at `Ok`
+-- at `Ok`, the sum of the bytes sent and those that wait
 whole_of : {a b : Option (List ℕ)} {bytes : List ℕ} (r : Result ℕ ShortWrite) (p : Puts a b 0 bytes r) (xs waits : List ℕ) (sent : ℕ)
     → waits ≡ drop sent (take p.taken bytes) → OnOk r (IfSome (Some xs) (λ _. bytes ≡ take sent bytes ++ waits))
 whole_of {bytes = bytes} (Ok count) p xs waits sent is =
@@ -85,7 +85,7 @@ sends name name' (Some xs) (Some ys) new waits kept bytes given r within fits p 
       whole = whole_of r p xs kept sent (kept_all ∙ split.1);
     }
 
--- what a document did to a writer behind a block that was empty before
+-- what writing a document through an empty block did to the inner writer
 pub sends_from : {name name' : ℕ} {a first b new : Option (List ℕ)} {none kept bytes : List ℕ} {start given : ℕ} {r : Result ℕ ShortWrite} (waits : List ℕ)
     → first ≡ a → none ≡ [] → start ≡ 0 → length waits ≤ given → given < 2 ^ 64
     → Puts (named_contents name first none start) (named_contents name' b waits given) 0 bytes r
@@ -106,7 +106,7 @@ added_last (Some xs) b c bytes waits sent more within p whole q =
     ap (take (sent + more)) whole ∙ ap (λ n. take (n + more) (front ++ waits)) (sym long) ∙ take-append-add front waits more in
     subst (Appends (Some xs) c) (sym joined) (appends_then (Some xs) b c front (take more waits) p q)
 
--- the last block was not written whole
+-- only a part of the last block was written
 pub fault_last : {a b c : Option (List ℕ)} {bytes waits rest : List ℕ} {count : ℕ} (given : Result ℕ ShortWrite) (fault : ShortWrite)
     → Sends a b bytes waits given → is_err given ≡ false → rest ≡ waits → count ≡ count_of given
     → Puts b c (count - length rest) rest (Err fault) → AddsFirst a c bytes fault.written
@@ -124,7 +124,7 @@ fault_last {a} {b} {c} {bytes} {waits} {rest} {count} (Ok all) fault s ok same i
     }
 fault_last (Err short) fault s ok same is p = absurd (cc)
 
--- at the exit of a `?`
+-- the early return of a `?`
 pub fault_exit : {T : Type 0} {a c : Option (List ℕ)} {bytes : List ℕ} (r : Result T ShortWrite) (fault : ShortWrite)
     → IsErrAnd r (λ e. e ≡ fault) → AddsFirst a c bytes fault.written → IfErr r (λ e. AddsFirst a c bytes e.written)
 fault_exit (Ok x) fault is p = absurd is

@@ -1,4 +1,4 @@
--- What a clause reads of a `Block`.
+-- The bytes of a `Block`.
 use Rattle.std.specs.Prelude.{ℕ, List, slice_range}
 use Rattle.block_writer.specs.declared.buffer.Block.{Block}
 

@@ -1,4 +1,4 @@
-//! The bytes that wait to be passed on.
+//! A buffer of bytes that aren't written yet ("wait").
 ghost use Rattle.std.specs.Prelude.{◌-◌, ◌<◌, ◌≤◌, ◌^◌};
 
 /// The size of a block.
@@ -11,7 +11,7 @@ pub(crate) struct Block {
     from: usize,
     /// Where they end.
     used: usize,
-    /// How many bytes were taken in all.
+    /// How many bytes the block took in all, with those that it passed on.
     given: u64,
     ghost ordered: { from ≤ used },
     ghost in_range: { used ≤ 4096 },
@@ -42,12 +42,12 @@ impl Block {
         &self.bytes[self.from..self.used]
     }
 
-    /// No byte fits behind the last.
+    /// Whether no byte fits after the last.
     pub(crate) fn is_full(&self) -> bool {
         self.used == SIZE
     }
 
-    /// Takes the first of the bytes, as many as fit, and returns how many. The count of all ends at `u64::MAX`.
+    /// Takes as many of the bytes as fit, from the first on, and returns how many. Takes at most `u64::MAX` in all.
     pub(crate) fn take(&mut self, bytes: &[u8]) -> usize
         ensures bound { result ≤ length bytes.now }
         ensures behind { waiting self.new ≡ waiting self.old ++ take result bytes.now }

@@ -16,7 +16,7 @@ use std::io::Write;
 mod buffer;
 mod passing;
 
-/// Bytes that can be put on any writer, by counted writes.
+/// A byte string that can be written to any writer, by counted writes.
 pub trait Document {
     ghost bytes: { Self → List ℕ };
 
@@ -25,11 +25,11 @@ pub trait Document {
         ensures { Puts (W.contents out.old) (W.contents out.new) 0 (bytes self.now) result };
 }
 
-/// Writes the document in blocks of 4,096 bytes. Only the last block may be shorter.
+/// Writes the document in blocks of 4,096 bytes; only the last block may be shorter.
 ///
-/// A write that takes fewer bytes than it was given is continued. The first write that fails or takes no byte ends the
-/// call, and nothing is written after it. The document is made twice, the first time only to count its bytes: with
-/// `u64::MAX` of them or more, it is written piece by piece. Allocates nothing.
+/// A short write is continued. The first write that fails or takes no byte ends the call with an error, and nothing is
+/// written after it. The document is produced twice, the first time only to count its bytes; if there are `u64::MAX` or
+/// more, it is written without blocks. Allocates nothing.
 pub fn put_in_blocks<D: Document, W: Write>(document: &D, out: &mut W) -> Result<(), ShortWrite>
     ensures ok { OnOk result
         (Appends (W.contents out.old) (W.contents out.new) (D.bytes document.now)) }
@@ -45,7 +45,7 @@ pub fn put_in_blocks<D: Document, W: Write>(document: &D, out: &mut W) -> Result
     }
 }
 
-/// Whether the document has fewer than `u64::MAX` bytes, so that a count of them is exact.
+/// Whether the document has fewer than `u64::MAX` bytes, so that its count is exact.
 fn is_countable<D: Document>(document: &D) -> bool {
     matches!(document.put_on(&mut io::sink()), Ok(length) if length < u64::MAX)
 }
@@ -71,12 +71,12 @@ fn put_blocks<D: Document, W: Write>(document: &D, out: &mut W) -> Result<(), Sh
     Ok(())
 }
 
-/// What a document left behind.
+/// The state after a document was written to [`Blocks`].
 #[derive(Drop)]
 struct Sent {
-    /// What its call answered.
+    /// The result of the document's call.
     given: Result<u64, ShortWrite>,
-    /// Its last bytes wait here.
+    /// The last bytes, not yet written.
     block: Block,
     /// A write failed or took no byte.
     failed: bool,
@@ -94,7 +94,7 @@ fn put_full_blocks<D: Document, W: Write>(document: &D, out: &mut W) -> Sent
         mut block,
         failed,
     } = blocks;
-    // This changes nothing: the block holds no more. A proof knows that only where the bytes of `out` are known.
+    // A no-op: the block holds no more bytes. The proof has that only if the contents of `out` are known.
     block.keep_last(count_of(given));
     Sent {
         given,
@@ -103,7 +103,7 @@ fn put_full_blocks<D: Document, W: Write>(document: &D, out: &mut W) -> Sent
     }
 }
 
-/// The number of bytes that were taken.
+/// The count of a result.
 fn count_of(given: Result<u64, ShortWrite>) -> u64
     ensures { result ≡ count_of given }
 {

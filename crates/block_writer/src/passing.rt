@@ -31,7 +31,7 @@ impl<'o, W: Write> Blocks<'o, W> {
         }
     }
 
-    /// Writes the bytes that wait.
+    /// Writes the bytes that wait to `out`.
     fn pass_on(&mut self)
         ensures { Keeps (blocks_contents W.contents self.old)
             (blocks_contents W.contents self.new) }
@@ -49,7 +49,7 @@ impl<'o, W: Write> Blocks<'o, W> {
 impl<W: Write> Write for Blocks<'_, W> {
     ghost contents = { blocks_contents W.contents };
 
-    /// After a failure the block stays full, so no byte is taken.
+    /// Takes bytes into the block. After a failure the block stays full, so it takes none.
     fn write(&mut self, buf: &[u8]) -> io::Result<usize> {
         if !self.failed && self.block.is_full() {
             self.pass_on();
@@ -57,7 +57,7 @@ impl<W: Write> Write for Blocks<'_, W> {
         Ok(self.block.take(buf))
     }
 
-    /// The bytes that wait stay in the block.
+    /// Does nothing: the bytes that wait stay in the block.
     fn flush(&mut self) -> io::Result<()> {
         Ok(())
     }

@@ -1,25 +1,25 @@
--- What a counted write does to the bytes that a writer holds, where those are known. The rules are this project's own choice.
+-- What a counted write does to the contents of a writer, where they are known. (This project's own choice.)
 use Rattle.std.specs.Prelude.{◌≡◌, ℕ, ◌+◌, ◌-◌, ◌^◌, ◌<◌, min, List, length, take, Option, Result, Ok, Err, MatchResult}
 use Rattle.std.specs.Io.KnownBytes.{Appends}
 use Rattle.counted_writer.specs.declared.ShortWrite.{ShortWrite}
 
--- the count of n more bytes, which stays at u64::MAX
+-- the count after n more bytes; it saturates at u64::MAX
 abbrev pub count_after : ℕ → ℕ → ℕ
 count_after before n = min (before + n) (2 ^ 64 - 1)
 
--- the count that a call answers
+-- the count that a call returns
 abbrev pub count_of : Result ℕ ShortWrite → ℕ
 count_of (Ok after) = after
 count_of (Err fault) = fault.written
 
--- the first bytes were added, all of them at `Ok` and not all at `Err`, and the answer is the count after them
+-- The first `taken` bytes were added: all at `Ok`, not all at `Err`. The result holds the count after them.
 pub record Puts (old new : Option (List ℕ)) (before : ℕ) (bytes : List ℕ) (result : Result ℕ ShortWrite) : Type 0 where
   pub taken : ℕ
   pub ends : MatchResult result (λ _. taken ≡ length bytes) (λ _. taken < length bytes)
   pub added : Appends old new (take taken bytes)
   pub counted : count_of result ≡ count_after before taken
 
--- exactly the first `written` of the bytes were added, and not all, where u64::MAX means that many or more
+-- exactly the first `written` bytes were added, and not all; `written` = u64::MAX means that many or more
 pub record AddsFirst (old new : Option (List ℕ)) (bytes : List ℕ) (written : ℕ) : Type 0 where
   pub taken : ℕ
   pub short : taken < length bytes

@@ -8,14 +8,14 @@ use Rattle.std.proofs.lemmas.List.{take-append-le}
 use Rattle.counted_writer.specs.declared.ShortWrite.{ShortWrite}
 use Rattle.counted_writer.specs.Puts.{Puts, AddsFirst}
 
--- what is known to be added in two steps
+-- bytes added in two steps are added together
 pub appends_then : (a b c : Option (List ℕ)) (xs ys : List ℕ) → Appends a b xs → Appends b c ys → Appends a c (xs ++ ys)
 appends_then None b c xs ys p q = tt
 appends_then (Some a) None c xs ys p q = absurd p
 appends_then (Some a) (Some b) None xs ys p q = absurd q
 appends_then (Some a) (Some b) (Some c) xs ys p q = q ∙ rw p (append_assoc a xs ys)
 
--- nothing is added where nothing is written
+-- a writer that didn't change had [] added
 pub appends_nothing : (a : Option (List ℕ)) → Appends a a []
 appends_nothing None = tt
 appends_nothing (Some a) = sym (append-nil a)
@@ -24,11 +24,11 @@ appends_nothing (Some a) = sym (append-nil a)
 pub puts_all : {a b : Option (List ℕ)} {before after : ℕ} {xs : List ℕ} → Puts a b before xs (Ok after) → Appends a b xs
 puts_all {a} {b} {before} {after} {xs} p = rw (p.ends, take-length xs) at p.added
 
--- no byte, and no write
+-- writing no byte
 pub puts_nothing : {a : Option (List ℕ)} {before : ℕ} → before < 2 ^ 64 → Puts a a before [] (Ok before)
 puts_nothing {a} {before} fits = record { taken = 0; ends = refl; added = appends_nothing a; counted = omega arith }
 
--- a second piece after a first that went out whole
+-- a second write after a first that succeeded
 pub puts_then : {a b c : Option (List ℕ)} {before middle : ℕ} {xs ys : List ℕ} {r : Result ℕ ShortWrite}
     → Puts a b before xs (Ok middle) → Puts b c middle ys r → Puts a c before (xs ++ ys) r
 puts_then {a} {b} {c} {before} {middle} {xs} {ys} {r = Ok after} p q = record {
@@ -44,7 +44,7 @@ puts_then {a} {b} {c} {before} {middle} {xs} {ys} {r = Err fault} p q = record {
   counted = omega arith;
 }
 
--- no second piece after a first that did not go out whole
+-- no second write after a first that failed
 pub puts_short : {a b : Option (List ℕ)} {before : ℕ} {xs : List ℕ} {fault : ShortWrite} (ys : List ℕ)
     → Puts a b before xs (Err fault) → Puts a b before (xs ++ ys) (Err fault)
 puts_short {a} {b} {before} {xs} {fault} ys p = record {
@@ -54,7 +54,7 @@ puts_short {a} {b} {before} {xs} {fault} ys p = record {
   counted = p.counted;
 }
 
--- at the exit of a `?`
+-- the early return of a `?`
 pub puts_exit : {a b : Option (List ℕ)} {before : ℕ} {xs : List ℕ} (r : Result ℕ ShortWrite) (fault : ShortWrite)
     → IsErrAnd r (λ e. e ≡ fault) → Puts a b before xs (Err fault) → Puts a b before xs r
 puts_exit (Ok after) fault is p = absurd is

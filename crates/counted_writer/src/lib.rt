@@ -1,5 +1,5 @@
-//! Writing that counts: bytes are written by a loop over `write` that never tries again, and the number of written
-//! bytes is known, also after a failure.
+//! Counted writes: a loop over `write` that never retries, and reports how many bytes were written, also after a
+//! failure.
 #![tactic(auto)]
 
 ghost use Rattle.counted_writer.specs.Puts.{Puts};
@@ -10,14 +10,14 @@ use std::io::Write;
 /// A write failed or took no byte.
 #[derive(Clone, Copy, Debug, PartialEq, Eq)]
 pub struct ShortWrite {
-    /// How many bytes were written until then; `u64::MAX` means that many or more.
+    /// How many bytes were written before the failure; `u64::MAX` means that many or more.
     pub written: u64,
 }
 
-/// Writes all the bytes, in as many writes as that takes, and returns the number of bytes written so far.
+/// Writes all the bytes and returns `written` plus their number.
 ///
-/// `written` is the number before; it stays at `u64::MAX`. The first write that fails, for whatever reason, or that
-/// takes no byte, ends the call. Takes no memory.
+/// `written` is the number of bytes written before; the sum saturates at `u64::MAX`. The first write that fails, for
+/// whatever reason, or that takes no byte, ends the call with an error. Allocates nothing.
 pub fn put<W: Write>(out: &mut W, mut written: u64, bytes: &[u8]) -> Result<u64, ShortWrite>
     ensures { Puts (W.contents out.old) (W.contents out.new) written bytes.now result }
 {

@@ -80,7 +80,7 @@ fn is_parameter(units: &[Unit], name: &Written) -> bool {
         .any(|parameter| is_same(parameter, name))
 }
 
-/// Gathers the names of an expression whose node begins elsewhere.
+/// Collects the names of an expression whose nodes begin elsewhere.
 #[cycle(arguments)]
 fn gather<'a, 'c>(
     expr: &'a Expr,
@@ -119,7 +119,7 @@ fn gather_in<'a, 'c>(
     }
 }
 
-/// Gathers the names in the only one of these.
+/// The same for the only one of these expressions.
 #[cycle(arguments)]
 fn gather_in_one<'a, 'c>(
     exprs: &'a [Expr],
@@ -146,7 +146,7 @@ fn add_name<'a, 'c>(
     Ok(())
 }
 
-/// The operand of a node with a number, from 0.
+/// Operand `number` of a node, from 0.
 fn operand(core: &Core, number: usize) -> Option<&Core> {
     let (first, second) = match core {
         Core::Unary(_, _, part) | Core::Field(_, _, part) => (part.as_ref(), None),

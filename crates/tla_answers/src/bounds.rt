@@ -1,10 +1,10 @@
-//! What to write in place of an infinite set, and of a value that nests deeper with each step.
+//! What to write instead of an infinite set, and of a value that nests deeper with each step.
 
 use crate::operands::Scene;
 use tla_core::{Core, Kind};
 use tla_page::output::Output;
 
-/// Hints a finite set in place of one that can't be enumerated.
+/// Hints at a finite set instead of one that can't be enumerated.
 pub(crate) fn hint_finite(output: &mut Output, scene: &Scene<'_, '_>) {
     let cure = match scene.node {
         Core::KindSet(_, Kind::Naturals) => {
@@ -24,7 +24,7 @@ pub(crate) fn hint_finite(output: &mut Output, scene: &Scene<'_, '_>) {
     output.hint(&[cure]);
 }
 
-/// Hints what adds to a sequence or a set, where one is put into another.
+/// Hints at the operator that adds to a sequence or a set, if one is put into another.
 pub(crate) fn hint_flat(output: &mut Output, scene: &Scene<'_, '_>) {
     let cure = match scene.node {
         Core::Tuple(_, _) => {

@@ -26,7 +26,7 @@ pub(crate) fn count_of(node: &Core, operands: &[Operand<'_>]) -> Option<u128> {
     }
 }
 
-/// How many parts it has at most, where equal ones count once.
+/// The most parts that it may have; equal ones may count once.
 pub(crate) fn most_of(node: &Core, operands: &[Operand<'_>]) -> Option<u128> {
     match (node, operands) {
         (Core::Image(_, sets, _), _) => product_over(sets, operands),
@@ -41,7 +41,7 @@ pub(crate) fn most_of(node: &Core, operands: &[Operand<'_>]) -> Option<u128> {
     }
 }
 
-/// How many numbers a range has that isn't empty.
+/// The number of elements of a range that isn't empty.
 fn range_size(low: &Value, high: &Value) -> Option<u128> {
     match (low, high) {
         (Value::Int(low), Value::Int(high)) => {
@@ -60,12 +60,12 @@ fn size_of(value: &Value) -> Option<u128> {
     }
 }
 
-/// A power, or the greatest number.
+/// A power, or `u128::MAX`.
 fn power_of(base: u128, exponent: u128) -> u128 {
     base.saturating_pow(u32::try_from(exponent).unwrap_or(u32::MAX))
 }
 
-/// The sum of the sizes of the members of a set, or the greatest number.
+/// The sum of the sizes of the members of a set, or `u128::MAX`.
 fn sum_of(sets: &SetValue) -> Option<u128> {
     let mut count: u128 = 0;
     for set in sets.items() {
@@ -74,7 +74,7 @@ fn sum_of(sets: &SetValue) -> Option<u128> {
     Some(count)
 }
 
-/// The product of the sizes of sets, or the greatest number.
+/// The product of the sizes of sets, or `u128::MAX`.
 fn product_of(operands: &[Operand<'_>]) -> Option<u128> {
     let mut count: u128 = 1;
     for operand in operands {
@@ -83,8 +83,7 @@ fn product_of(operands: &[Operand<'_>]) -> Option<u128> {
     Some(count)
 }
 
-/// The product of the sizes of the sets from which names are bound. Where they were not all evaluated, each has to show its
-/// size.
+/// The product of the sizes of the sets of bound names. If not all sets were evaluated, each has to show its size.
 fn product_over(sets: &[Core], operands: &[Operand<'_>]) -> Option<u128> {
     if operands.len() == sets.len() {
         return product_of(operands);

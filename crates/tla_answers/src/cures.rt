@@ -1,4 +1,4 @@
-//! What to write in place of an expression that faults.
+//! What to write instead of an expression that faults.
 
 use crate::kinds::{Wanted, wanted_of};
 use crate::operands::Scene;
@@ -17,7 +17,7 @@ use tla_value::{Arguments, FunValue, Value};
 /// Fields that other languages have for the length of a sequence.
 const LENGTHS: [&str; 4] = ["length", "Length", "len", "size"];
 
-/// Hints what was probably meant where an operand is of the wrong kind.
+/// Hints at what was probably meant if an operand is of the wrong kind.
 pub(crate) fn hint_kind<'a>(
     output: &mut Output,
     context: &ExplainContext<'a>,
@@ -54,7 +54,7 @@ pub(crate) fn hint_kind<'a>(
     }
 }
 
-/// The first operand that isn't of the kind that is wanted.
+/// The first operand that isn't of the required kind.
 pub(crate) fn wrong_operand<'c>(scene: &Scene<'_, 'c>) -> Option<(&'c Operand<'c>, Wanted)> {
     for operand in scene.culprit.operands.iter() {
         if let Some(wanted) = wanted_of(scene.node, operand.number)
@@ -94,7 +94,7 @@ fn hint_model_value(output: &mut Output, context: &ExplainContext<'_>, name: &st
     }
 }
 
-/// Whether a name is one that a module defines.
+/// Whether a module defines a name.
 fn is_definition(alloc: Global, units: &[Unit], name: &str) -> Result<bool, AllocError> {
     let known = known_names(alloc, units)?;
     Ok(match known_name(&known, name) {
@@ -128,8 +128,7 @@ fn hint_items<'a>(
     }
 }
 
-/// The operator that takes values of the kinds that these operands are; no text where there is
-/// none.
+/// The operator that takes values of the kinds of these operands; empty if there is none.
 fn operator_meant(node: &Core, operands: &[Operand<'_>]) -> &'static str {
     let sets = operands
         .iter()
@@ -160,7 +159,7 @@ fn are_numbers(operands: &[Operand<'_>]) -> bool {
         .all(|operand| matches!(operand.value, Value::Int(_)))
 }
 
-/// What joins functions, where `\cup` has one at the left; no text where it adds to a set.
+/// The operator that joins functions, if the left operand of `\cup` is one; empty if it is a set.
 fn function_meant(operands: &[Operand<'_>]) -> &'static str {
     let Some(left) = operands.first() else {
         return "";
@@ -172,8 +171,8 @@ fn function_meant(operands: &[Operand<'_>]) -> &'static str {
     }
 }
 
-/// Hints what was meant if a record or a function is used as a set of functions or of records; false if it is something
-/// else.
+/// Hints at what was meant if a record or a function is used as a set of functions or of records; false if it is
+/// something else.
 fn hint_member(
     output: &mut Output,
     context: &ExplainContext<'_>,
@@ -199,7 +198,7 @@ fn hint_member(
     true
 }
 
-/// Hints `->` where the only field has the name of a set, and else `:`.
+/// Hints at `->` if the only field has the name of a set, else at `:`.
 fn hint_record(output: &mut Output, units: &[Unit], fields: &[Field]) {
     match is_known(output.alloc(), units, fields) {
         Ok(true) => output.hint(&[
@@ -212,7 +211,7 @@ fn hint_record(output: &mut Output, units: &[Unit], fields: &[Field]) {
     }
 }
 
-/// Whether there is one field alone, and its name is one of the module.
+/// Whether there is only one field, and its name is one of the module.
 fn is_known(alloc: Global, units: &[Unit], fields: &[Field]) -> Result<bool, AllocError> {
     let known = known_names(alloc, units)?;
     Ok(match fields {
@@ -226,7 +225,7 @@ fn has_sets(function: &FunValue) -> bool {
     matches!(function.values().first(), Some(Value::Set(_)))
 }
 
-/// Hints brackets round an element.
+/// Hints at brackets around an element.
 fn hint_brackets<'a>(
     output: &mut Output,
     context: &ExplainContext<'a>,
@@ -241,7 +240,7 @@ fn hint_brackets<'a>(
     }
 }
 
-/// Hints the field that was probably meant.
+/// Hints at the field that was probably meant.
 pub(crate) fn hint_field(output: &mut Output, scene: &Scene<'_, '_>) {
     let Core::Field(_, name, _) = scene.node else {
         return;

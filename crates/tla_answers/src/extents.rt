@@ -9,7 +9,7 @@ use tla_tree::{Arm, Expr, slice_of};
 /// The length in bytes after which the text of an expression is cut.
 const LONGEST_TEXT: usize = 80;
 
-/// The number of the token at which an expression begins.
+/// The index of the first token of an expression.
 pub(crate) fn first_token(tokens: &[Token], expr: &Expr) -> Option<usize> {
     token_at(tokens, expr.place())
 }
@@ -18,7 +18,7 @@ fn token_at(tokens: &[Token], place: Place) -> Option<usize> {
     tokens.iter().position(|token| token.place == place)
 }
 
-/// The number of the token at which an expression ends.
+/// The index of the last token of an expression.
 #[cycle(last)]
 pub(crate) fn last_token(tokens: &[Token], expr: &Expr) -> Option<usize> {
     match expr {
@@ -52,7 +52,7 @@ pub(crate) fn last_token(tokens: &[Token], expr: &Expr) -> Option<usize> {
     }
 }
 
-/// The number of the token at which the last of some expressions ends.
+/// The index of the last token of the last of some expressions.
 #[cycle(last)]
 fn last_of_all(tokens: &[Token], items: &[Expr]) -> Option<usize> {
     let mut last = None;
@@ -62,7 +62,7 @@ fn last_of_all(tokens: &[Token], items: &[Expr]) -> Option<usize> {
     last
 }
 
-/// The number of the token at which the last of some arms ends.
+/// The index of the last token of the last of some arms.
 #[cycle(last)]
 fn last_of_arms(tokens: &[Token], arms: &[Arm]) -> Option<usize> {
     let mut last = None;
@@ -72,7 +72,7 @@ fn last_of_arms(tokens: &[Token], arms: &[Arm]) -> Option<usize> {
     last
 }
 
-/// The number after a token's.
+/// The index plus 1.
 fn number_after(number: Option<usize>) -> Option<usize> {
     match number {
         Some(number) => number.checked_add(1),
@@ -80,7 +80,7 @@ fn number_after(number: Option<usize>) -> Option<usize> {
     }
 }
 
-/// The number of the token that closes the bracket which a token opens.
+/// The index of the token that closes the bracket that a token opens.
 fn closing_of(tokens: &[Token], open: Option<usize>) -> Option<usize> {
     let open = open?;
     let mut depth = 0usize;
@@ -97,8 +97,8 @@ fn closing_of(tokens: &[Token], open: Option<usize>) -> Option<usize> {
     None
 }
 
-/// The text of an expression in one line, without comments, or its beginning; empty where it isn't
-/// found. The only error is that memory ran out.
+/// The text of an expression in one line, without comments, or its beginning; empty if it isn't found. The only error
+/// is that memory ran out.
 pub(crate) fn text_of(
     alloc: Global,
     sources: &Sources<'_>,

@@ -15,7 +15,7 @@ use tla_traces::context::ExplainContext;
 use tla_value::Text;
 use tla_verdict::Part;
 
-/// Explains a fault: where it is, in which definitions, and what values the variables had.
+/// Explains a fault: where it is, in which definitions, and the values of the variables.
 pub(crate) fn explain_fault(
     output: &mut Output,
     context: &ExplainContext<'_>,
@@ -109,7 +109,7 @@ fn code_title(code: FaultCode) -> &'static str {
     }
 }
 
-/// Names the definitions that have a place in them.
+/// Names the definition that contains a place, and those that use it.
 fn put_definitions(output: &mut Output, context: &ExplainContext<'_>, place: Place) {
     let units = context.units;
     let mut name = definition_at(units, token_place(place));
@@ -147,7 +147,7 @@ fn put_users<'a>(output: &mut Output, context: &ExplainContext<'a>, name: &str) 
     only
 }
 
-/// The definition in which a token uses a name; no text where it is another token.
+/// The definition in which a token uses a name; empty if it is another token.
 fn user_at<'a>(context: &ExplainContext<'a>, token: &Token, name: &str) -> &'a str {
     if token.kind == Kind::Name && word(context.sources.module, token) == name {
         definition_at(context.units, token.place)
@@ -156,7 +156,7 @@ fn user_at<'a>(context: &ExplainContext<'a>, token: &Token, name: &str) -> &'a s
     }
 }
 
-/// Adds the values of the variables at which the fault occurred.
+/// Adds the values of the variables in the state of the fault.
 fn put_fault_state(output: &mut Output, answered: &Answered) {
     let states = answered.answer.states();
     if let Some(last) = states.last() {

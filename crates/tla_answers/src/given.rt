@@ -1,5 +1,5 @@
-//! Formulas of which the module has no text: the configuration gives their names a value, or lets
-//! them mean an operator of an extended module.
+//! Formulas without a text in the module: the configuration assigns a value to the name, or replaces it by an operator
+//! of an extended module.
 
 use tla_config::{Item, Source};
 use tla_core::{Fault, FaultCode};
@@ -10,7 +10,7 @@ use tla_traces::context::ExplainContext;
 use tla_traces::formulas::{Formula, name_alone, name_of_item};
 use tla_verdict::Part;
 
-/// Explains a fault of such a formula. Answers whether it is one.
+/// Explains a fault of such a formula. Returns whether it is one.
 pub(crate) fn explain_fault(
     output: &mut Output,
     context: &ExplainContext<'_>,
@@ -56,13 +56,13 @@ pub(crate) fn begin(output: &mut Output, context: &ExplainContext<'_>, formula: 
     output.put_place(context.sources, Source::Configuration, formula.place);
 }
 
-/// Ends it, and shows the name.
+/// Ends the explanation, and shows the name.
 pub(crate) fn end(output: &mut Output, context: &ExplainContext<'_>, formula: &Formula<'_>) {
     output.put_text("\n");
     output.show(context.sources, Source::Configuration, formula.place);
 }
 
-/// Hints at the item of CONSTANT that takes the definition from the name of a formula.
+/// Hints at the item of CONSTANT that replaces the definition of a formula.
 pub(crate) fn hint(output: &mut Output, context: &ExplainContext<'_>, formula: &Formula<'_>) {
     let Some(item) = formula.item else {
         return;
@@ -84,7 +84,7 @@ fn put_item(output: &mut Output, context: &ExplainContext<'_>, formula: &Formula
     put_at(output, context.sources, Source::Configuration, place);
 }
 
-/// Hints at the item `c <- Op` by which the name of a formula means another definition.
+/// Hints at the item `c <- Op` that replaces the name of a formula by another definition.
 pub(crate) fn hint_meaning(
     output: &mut Output,
     context: &ExplainContext<'_>,

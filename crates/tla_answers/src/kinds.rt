@@ -1,10 +1,10 @@
-//! What kinds of values operands have to be, and what they are.
+//! The kinds of values that operands must have, and those that they have.
 
 use tla_core::{Binary, Core, Unary};
 use tla_page::output::Output;
 use tla_value::{Arguments, FunValue, Value};
 
-/// A kind of value that an operand has to be.
+/// A required kind of operand.
 #[derive(Clone, Copy, Debug, PartialEq, Eq)]
 pub(crate) enum Wanted {
     Truth,
@@ -44,7 +44,7 @@ impl Wanted {
     }
 }
 
-/// What the operand of a node has to be; none where each value serves.
+/// The required kind of an operand of a node; none if any value will do.
 pub(crate) fn wanted_of(core: &Core, number: usize) -> Option<Wanted> {
     match core {
         Core::Unary(_, operator, _) => Some(wanted_of_unary(*operator)),
@@ -117,7 +117,7 @@ pub(crate) fn put_kind(output: &mut Output, value: &Value) {
     output.put_value(value);
 }
 
-/// Whether each argument of a function is a string, and there is one.
+/// Whether each argument of a function is a string, and there is at least one.
 pub(crate) fn is_record(function: &FunValue) -> bool {
     match function.arguments() {
         Arguments::Numbers(_) => false,

@@ -1,4 +1,4 @@
-//! A variable that is left without a value.
+//! Explains that an action leaves a variable without a value.
 
 use crate::answer::{begin_at, end_at};
 use crate::faults::{name_at, put_named, put_part_name};
@@ -14,7 +14,7 @@ use tla_traces::trace::put_part;
 use tla_value::State;
 use tla_verdict::Part;
 
-/// How many expressions are evaluated to find the part.
+/// The most expressions that are evaluated to find the part.
 const BUDGET: u64 = 300_000;
 
 /// Explains which part leaves a variable without a value, and what to write.

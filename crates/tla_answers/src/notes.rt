@@ -18,7 +18,7 @@ use tla_verdict::{Counts, Part};
 /// The most states of a level whose constraints are evaluated again.
 const MOST_STATES: u64 = 10_000;
 
-/// Adds notes on what a reader may have missed, where no error was found.
+/// Adds notes on what a user may have missed, if no error was found.
 pub(crate) fn put_notes(output: &mut Output, context: &ExplainContext<'_>, counts: &Counts) {
     if counts.levels == 0 {
         return note_no_state(output, context);
@@ -143,7 +143,7 @@ fn is_part_of(
     Ok(false)
 }
 
-/// Adds the definitions that use a name and that were not met before.
+/// Adds the definitions that use a name, unless they are in the list already.
 fn add_users<'a>(
     met: &mut Vec<&'a str>,
     context: &ExplainContext<'a>,

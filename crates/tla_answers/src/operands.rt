@@ -1,4 +1,4 @@
-//! What the operands were where an expression faults.
+//! The operands of an expression that faults.
 
 use crate::bounds::{hint_finite, hint_flat};
 use crate::counts::{count_of, most_of};
@@ -18,7 +18,7 @@ use tla_tree::Expr;
 use tla_value::{State, Value};
 use tla_verdict::Part;
 
-/// How many expressions are evaluated to find the node of a fault.
+/// The most expressions that are evaluated to find the node of a fault.
 const BUDGET: u64 = 300_000;
 
 /// The node of a fault, with its text.
@@ -30,7 +30,7 @@ pub(crate) struct Scene<'a, 'c> {
     pub(crate) is_initial: bool,
 }
 
-/// Adds the operands where a formula faults, and the values of the names that are bound there.
+/// Adds the operands of the node at which a formula faults, and the values of the names bound there.
 pub(crate) fn explain_operands(
     output: &mut Output,
     context: &ExplainContext<'_>,
@@ -109,7 +109,7 @@ fn explain_culprit(
     }
 }
 
-/// Whether the text about the node says all that the rule of the code says.
+/// Whether the text about the node makes the rule of the code superfluous.
 fn has_own_text(code: FaultCode, scene: &Scene<'_, '_>) -> bool {
     match code {
         FaultCode::WrongKind => {
@@ -152,8 +152,8 @@ fn explain_cause<'a>(
     }
 }
 
-/// Adds the first operand that isn't of the wanted kind, the element that doesn't fit its pattern, or
-/// the value that is no truth value.
+/// Adds the first operand that isn't of the required kind, the element that doesn't fit its pattern, or the value that
+/// is no truth value.
 fn explain_wrong_kind<'a>(
     output: &mut Output,
     context: &ExplainContext<'a>,
@@ -175,14 +175,14 @@ fn explain_wrong_kind<'a>(
     }
 }
 
-/// Ends the text about a value that isn't of the wanted kind.
+/// Ends the text about a value that isn't of the required kind.
 fn put_wanted(output: &mut Output, value: &Value, wanted: Wanted) {
     output.put_text(" is ");
     put_kind(output, value);
     output.put(&["; ", wanted.text(), " is wanted\n"]);
 }
 
-/// The element that doesn't fit its pattern, and how many names that has.
+/// The element that doesn't fit its pattern, and the number of names of the pattern.
 fn misfit<'c>(scene: &Scene<'_, 'c>) -> Option<(&'c Value, usize)> {
     let Core::Destructure(_, openings, _) = scene.node else {
         return None;
@@ -194,7 +194,7 @@ fn misfit<'c>(scene: &Scene<'_, 'c>) -> Option<(&'c Value, usize)> {
     Some((&chosen.value, opening.items))
 }
 
-/// Adds the text of an operand after a comma, unless it is its value.
+/// Adds the text of an operand after a comma, unless it is the same as its value.
 fn put_name_of<'a>(
     output: &mut Output,
     context: &ExplainContext<'a>,
@@ -255,7 +255,7 @@ fn put_position(output: &mut Output, scene: &Scene<'_, '_>, number: usize) {
     }
 }
 
-/// Adds an argument and the domain that it isn't in.
+/// Adds an argument, and the domain, which doesn't contain it.
 fn explain_outside_domain<'a>(
     output: &mut Output,
     context: &ExplainContext<'a>,
@@ -304,7 +304,7 @@ fn explain_missing_field<'a>(
     output.put_text("\n");
 }
 
-/// Adds the set from which nothing could be chosen.
+/// Adds the set from which CHOOSE found no element.
 fn explain_no_choice<'a>(
     output: &mut Output,
     context: &ExplainContext<'a>,
@@ -363,7 +363,6 @@ fn explain_assert<'a>(output: &mut Output, context: &ExplainContext<'a>, scene: 
     }
 }
 
-/// The operand with a number.
 fn operand_at<'o, 'c>(operands: &'o [Operand<'c>], number: usize) -> Option<&'o Operand<'c>> {
     operands.iter().find(|operand| operand.number == number)
 }

@@ -1,4 +1,4 @@
-//! What to write where a next value is read that isn't set.
+//! What to write if a next value is read that isn't set.
 
 use crate::extents::{first_token, last_token, text_between};
 use crate::operands::Scene;
@@ -12,7 +12,7 @@ use tla_traces::expressions::expression_of;
 use tla_traces::signs::sign_of;
 use tla_tree::Expr;
 
-/// Hints what to write where a next value is read that isn't set.
+/// Hints at what to write if a next value is read that isn't set.
 pub(crate) fn hint_next<'a>(
     output: &mut Output,
     context: &ExplainContext<'a>,
@@ -40,7 +40,7 @@ pub(crate) fn hint_next<'a>(
     }
 }
 
-/// Hints what to write in an action, by the form in which the next value occurs.
+/// Hints at what to write in an action, by the form in which the next value occurs.
 fn hint_primed<'a>(
     output: &mut Output,
     context: &ExplainContext<'a>,
@@ -77,7 +77,7 @@ fn is_own_value(nodes: &[&Core], variable: usize) -> bool {
     false
 }
 
-/// Whether a node on the way down is what the next value of a variable is to be.
+/// Whether a node on the path is assigned to the next value of a variable.
 fn gives_value_at<'c>(nodes: &[&'c Core], below: usize, variable: usize) -> Option<bool> {
     let above = below.checked_sub(1)?;
     let whole: &'c Core = *nodes.get(above)?;
@@ -85,7 +85,7 @@ fn gives_value_at<'c>(nodes: &[&'c Core], below: usize, variable: usize) -> Opti
     Some(gives_value(whole, part, variable))
 }
 
-/// Whether a node is an equality of a next value and a part of it.
+/// Whether a node is an equality that assigns a part of it to the next value of a variable.
 fn gives_value(whole: &Core, part: &Core, variable: usize) -> bool {
     match whole {
         Core::Equal(_, left, right) => {
@@ -96,8 +96,8 @@ fn gives_value(whole: &Core, part: &Core, variable: usize) -> bool {
     }
 }
 
-/// Hints how to write an equality, an inclusion or an equivalence of which the next value is a side;
-/// false where it is none.
+/// Hints at how to write an equality, an inclusion or an equivalence with the next value as a side; false if there is
+/// none.
 fn hint_side(
     output: &mut Output,
     context: &ExplainContext<'_>,
@@ -125,8 +125,7 @@ fn hint_side(
     true
 }
 
-/// The equality whose left side is a part of the next value at the end of these nodes, as `x'[1] =
-/// 3`.
+/// The equality whose left side is a part of the next value at the end of these nodes, as in `x'[1] = 3`.
 fn part_equality<'c>(nodes: &[&'c Core]) -> Option<&'c Core> {
     let mut below = nodes.len().checked_sub(1)?;
     for _ in 0..nodes.len() {
@@ -146,7 +145,7 @@ fn part_equality<'c>(nodes: &[&'c Core]) -> Option<&'c Core> {
     None
 }
 
-/// Whether two nodes on one way down are the same one.
+/// Whether two nodes on a path are the same.
 fn same_node(first: &Core, part: &Core) -> bool {
     first.place() == part.place() && sign_of(first) == sign_of(part)
 }
@@ -155,7 +154,7 @@ fn is_next(core: &Core) -> bool {
     matches!(core, Core::Next(_, _))
 }
 
-/// Hints how to set a part of a function.
+/// Hints at how to set a part of a function.
 fn hint_part(
     output: &mut Output,
     context: &ExplainContext<'_>,
@@ -194,8 +193,7 @@ fn is_for_all(nodes: &[&Core]) -> bool {
         .any(|node| matches!(node, Core::ForAll(_, _, _)))
 }
 
-/// The path of a part, as EXCEPT has it: `[1].a` of `x'[1].a` and of `x[1].a'`; none where there is
-/// no prime.
+/// The path of a part, as EXCEPT writes it: `[1].a` for `x'[1].a` and for `x[1].a'`; none if there is no prime.
 fn path_of(
     alloc: Global,
     context: &ExplainContext<'_>,

@@ -15,17 +15,16 @@ use tla_traces::trace::put_part;
 use tla_tree::Expr;
 use tla_value::State;
 
-/// How many expressions are evaluated to find why something is FALSE.
+/// The most expressions that are evaluated to find why something is FALSE.
 const BUDGET: u64 = 300_000;
 
-/// The operands of a reason with this number or a greater one are sets that its first operands count.
+/// Operands of a reason from this number on are the sets S of operands `Cardinality(S)`.
 const COUNTED: usize = 2;
 
-/// How many parts are shown that are FALSE.
+/// The most FALSE parts that are shown.
 const MOST_REASONS: usize = 8;
 
-/// Explains which parts of a state predicate make it FALSE. There is a line for each, and each line
-/// begins with `start`.
+/// Explains which parts of a state predicate make it FALSE, in a line for each, which begins with `start`.
 pub(crate) fn explain_reasons(
     output: &mut Output,
     context: &ExplainContext<'_>,
@@ -60,8 +59,7 @@ fn put_reasons(
     }
 }
 
-/// Adds a line about a part that decides: `line 14, /\ Len(queue) <= Max is FALSE; Len(queue) is 4,
-/// Max is 3`.
+/// Adds a line about a deciding part: `line 14, /\ Len(queue) <= Max is FALSE; Len(queue) is 4, Max is 3`.
 fn put_reason(output: &mut Output, context: &ExplainContext<'_>, reason: &Reason<'_>) {
     let expr = expression_of(context.units, reason.part);
     output.put_text("line ");
@@ -121,7 +119,7 @@ fn put_verdict(
     }
 }
 
-/// Adds what keeps a value out of a set: `; at 2 it is "x", not in {"a", "b"}`.
+/// Adds why a value isn't in a set: `; at 2 it is "x", not in {"a", "b"}`.
 fn put_stray(output: &mut Output, context: &ExplainContext<'_>, stray: &Stray<'_>) {
     output.put_text("; ");
     if let Some(at) = &stray.at {
@@ -141,7 +139,7 @@ fn put_stray(output: &mut Output, context: &ExplainContext<'_>, stray: &Stray<'_
     }
 }
 
-/// Adds what a quantifier has before the colon.
+/// Adds the text of a quantifier before the colon.
 fn put_binders<'a>(
     output: &mut Output,
     context: &ExplainContext<'a>,
@@ -164,7 +162,7 @@ fn put_binders<'a>(
     }
 }
 
-/// Adds a part that isn't written as such: `UNCHANGED <<x, y>>` is UNCHANGED of each.
+/// Adds a part that has no text of its own: `UNCHANGED <<x, y>>` means UNCHANGED of each variable.
 fn put_unwritten(output: &mut Output, context: &ExplainContext<'_>, part: &Core) {
     match part {
         Core::Equal(_, left, _) => match left.as_ref() {
@@ -185,8 +183,7 @@ pub(crate) fn variable_name<'a>(context: &ExplainContext<'a>, variable: usize) -
     }
 }
 
-/// Whether an equality that is TRUE has a side that is its own value, so that nothing more is to be
-/// shown.
+/// Whether an equality that is TRUE has a literal as one side, so that its operands needn't be shown.
 fn shows_its_operands(
     context: &ExplainContext<'_>,
     expr: Option<&Expr>,
@@ -201,7 +198,7 @@ fn shows_its_operands(
             .any(|operand| is_literal(operand_expr(context, expr, operand)))
 }
 
-/// Whether an expression is written as a value.
+/// Whether an expression is a literal.
 fn is_literal(expr: Option<&Expr>) -> bool {
     match expr {
         Some(Expr::Number(_, _) | Expr::Text(_, _) | Expr::Constant(_, _)) => true,
@@ -229,7 +226,7 @@ pub(crate) fn operand_expr<'a>(
     }
 }
 
-/// The set that an operand with a number counts, if it is a call of Cardinality.
+/// The set S, if operand `number` is `Cardinality(S)`.
 fn counted_in(whole: &Expr, number: usize) -> Option<&Expr> {
     match operand_of(whole, number)? {
         Expr::Call(name, arguments) if name.word.as_bytes() == b"Cardinality".as_slice() => {
@@ -247,8 +244,7 @@ pub(crate) fn put_expression(output: &mut Output, context: &ExplainContext<'_>, 
     }
 }
 
-/// Adds the operands with their values, but for those that are written as values and for names that
-/// were chosen: `; Len(queue) is 4, Max is 3`.
+/// Adds the operands with their values, except literals and chosen names: `; Len(queue) is 4, Max is 3`.
 pub(crate) fn put_operands<'a>(
     output: &mut Output,
     context: &ExplainContext<'a>,
@@ -274,7 +270,7 @@ pub(crate) fn put_operands<'a>(
     }
 }
 
-/// Adds the next value of a variable, where the text doesn't write it.
+/// Adds the next value of a variable, if it has no text.
 fn put_next(
     output: &mut Output,
     context: &ExplainContext<'_>,
@@ -286,7 +282,7 @@ fn put_next(
     output.put_value(&operand.value);
 }
 
-/// Adds an operand with its value; false where its text is its value.
+/// Adds an operand with its value; false if its text is its value.
 fn put_operand(
     output: &mut Output,
     context: &ExplainContext<'_>,
@@ -308,8 +304,8 @@ fn put_operand(
     true
 }
 
-/// Explains why an action makes no step: for each of its parts the first conjunct that is FALSE. Each
-/// line begins with `start`.
+/// Explains why an action makes no step: for each of its parts the first conjunct that is FALSE. Each line begins with
+/// `start`.
 pub(crate) fn explain_blocked(
     output: &mut Output,
     context: &ExplainContext<'_>,
@@ -329,8 +325,7 @@ pub(crate) fn explain_blocked(
     }
 }
 
-/// Adds a line for each reason for which a part makes no step: `SendNew (line 16): Len(sent) < 3 is
-/// FALSE`.
+/// Adds a line for each reason why a part makes no step: `SendNew (line 16): Len(sent) < 3 is FALSE`.
 fn put_blocked(
     output: &mut Output,
     context: &ExplainContext<'_>,
@@ -367,7 +362,7 @@ fn put_blocked(
     }
 }
 
-/// Adds a hint where an action compares a variable with what it is made of, as in `x = x + 1`.
+/// Adds a hint if an action compares a variable with an expression of it, as in `x = x + 1`.
 fn hint_prime(output: &mut Output, context: &ExplainContext<'_>, parts: &[Blocked<'_>]) {
     for blocked in parts {
         for reason in blocked.reasons.iter() {
@@ -382,8 +377,7 @@ fn hint_prime(output: &mut Output, context: &ExplainContext<'_>, parts: &[Blocke
     }
 }
 
-/// The variable that a conjunct compares in a part of Next that sets other variables, and not this
-/// one.
+/// The variable that a conjunct compares in a part of Next that sets other variables, but not this one.
 fn compared_only(conjunct: &Core, part: &Core) -> Option<usize> {
     match conjunct {
         Core::Equal(_, left, _) | Core::Member(_, left, _) => match left.as_ref() {
@@ -422,7 +416,7 @@ fn put_prime_hint(output: &mut Output, name: &str, line: u64) {
     ]);
 }
 
-/// The variable that is one side of an equality whose other side it is in.
+/// The variable that is one side of an equality and occurs in the other side.
 fn compared_with_itself(part: &Core) -> Option<usize> {
     let Core::Equal(_, left, right) = part else {
         return None;
@@ -433,7 +427,7 @@ fn compared_with_itself(part: &Core) -> Option<usize> {
     }
 }
 
-/// Whether an expression is made of a variable by an operator or by EXCEPT.
+/// Whether an expression applies an operator or EXCEPT to a variable.
 fn mentions(core: &Core, variable: usize) -> bool {
     match core {
         Core::Binary(_, _, left, right)

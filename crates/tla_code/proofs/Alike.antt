@@ -1,4 +1,5 @@
--- Two meanings that give the same, each with its bound names and its states. What a form makes of its parts then gives the same too.
+-- Two meanings with the same results, each for its bound names and its states. Forms of such parts have the same
+-- results too.
 use Rattle.std.proofs.Common.{◌≡◌, ℕ, Bool, true, false, cond, not, ◌==◌, List, [], ◌∷◌, ◌++◌, filter, zip, length, get_or, refl, Option, Ok, slice_get}
 use Rattle.tla_value.specs.Tree.{Tree, truth, text, set, trees}
 use Rattle.tla_value.specs.Order.{tree_eq}
@@ -21,12 +22,12 @@ use Rattle.tla_core.specs.Membership.{if_some, means-member, means-not_member, m
 use Rattle.tla_core.specs.SetForms.{on_sets, of_two_sets, field_has, names_of, parts_have, means-power, means-functions, means-records, means-product, means-cup, means-cap, means-minus, means-filtered}
 use Rattle.tla_code.proofs.Pointwise.{Pointwise, none, more, Optional, neither, both, same-length, same-each, same-all_hold, same-some_hold}
 
--- where the bound names are related, and the states are these
+-- for related bound names, and these states
 pub record Alike (R : Bound → Bound → Type 0) (s s' : Present) (t t' : Next) (m m' : Meaning) : Type 0 where
   pub value : (b b' : Bound) → R b b' → m.value b s t ≡ m'.value b' s' t'
   pub has : (v : Tree) (b b' : Bound) → R b b' → m.has v b s t ≡ m'.has v b' s' t'
 
--- the same names more on both sides
+-- the same additional names on both sides
 abbrev pub Grows : (Bound → Bound → Type 0) → Type 0
 Grows R = (b b' own : Bound) → R b b' → R (b ++ own) (b' ++ own)
 
@@ -109,7 +110,7 @@ module _ {R : Bound → Bound → Type 0} {s s' : Present} {t t' : Next} where
       has = λ v b b' r i. if_some (members_of v) (all_hold (λ x. ha.has x b b' r i));
     }
 
-    -- the patterns of both sides open the same elements
+    -- the patterns of both sides destructure the same elements
     pub alike-opened : Grows R → (os os' : List Opening) → ((b b' : Bound) → R b b' → opened_items p os b ≡ opened_items p os' b') → Alike R s s' t t' (means-opened p os a) (means-opened p os' a')
     alike-opened g os os' h = alike-by_value p _ _ _ _ (λ b b' r i. h b b' r i >>= λ xs. ha.value (b ++ xs) (b' ++ xs) (g b b' xs r) i)
 

@@ -78,7 +78,7 @@ updates_same (u ∷ us) h scope =
     (λ i. more_updates (all_same u.0.items first.0 scope i) (first.1.1 scope i) (updates_same us (All-tail UpdateIsClosed u us h) scope i))
 
 -- ---- nodes
--- a code that stands for this expression in each scope
+-- a code that denotes this expression in each scope
 closed : (c : Code) (e : Scope → Expr) → ((scope : Scope) → expr_in scope c ≡ e scope) → HasNoVariables (e []) → ((scope : Scope) → e scope ≡ e []) → IsClosed c
 closed c e is steady same = (subst HasNoVariables (sym (is [])) steady, λ scope. is scope ∙ same scope ∙ sym (is []))
 

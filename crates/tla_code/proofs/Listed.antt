@@ -1,4 +1,4 @@
--- What nodes with a list of parts stand for, from the list.
+-- What nodes with a list of parts denote, from the list.
 use Rattle.std.proofs.Common.{rules, Some, None, ◌≡◌, ℕ, ◌+◌, ◌<◌, List, [], ◌∷◌, ◌++◌, length, take, get_or, Result, Ok, Err, IfOk, refl, ap, sym, subst, ◌∙◌, Vec, Box, Bor, Global}
 use Rattle.std.specs.List.{AllZip}
 use Rattle.std.proofs.lemmas.List.{take_more}
@@ -20,12 +20,12 @@ use Rattle.tla_code.specs.CodeExpr.{Scope, expr_in, exprs_in, fields_in, updates
 use Rattle.tla_code.specs.Private.Listed.{exprs_of_codes, fields_of_codes, updates_of_codes, exprs_of_cores, fields_of_list, parts_of_arms, arms_of_list, updates_of_list, StandsFor, FieldStandsFor, UpdateStandsFor}
 use mathlib.Core.Former.{Count}
 
--- a code that stands for an expression that is a core's
+-- a code that denotes an expression that is a core's
 pub stands : {E : Type 0} (core : Core) (e : Expr) (r : Result Code E) → e ≡ expr_of core → IfOk r (λ c. (scope : Scope) → expr_in scope c ≡ e) → IfOk r (λ c. StandsFor core c)
 stands core e (Ok c) is h = λ scope. h scope ∙ is
 stands core e (Err x) is h = h
 
--- ---- one more turn of a loop
+-- ---- one more iteration of a loop
 pub zip_more : {A B : Type 0} (R : A → B → Type 0) (xs : List A) (ys : List B) (i : ℕ) (x : A) (y : B) → i < length xs → x ≡ get_or xs i x → AllZip R (take i xs) ys → R x y → AllZip R (take (i + 1) xs) (ys ++ y ∷ [])
 zip_more R xs ys i x y l is h r =
     subst (λ us. AllZip R us (ys ++ y ∷ [])) (sym (take_more xs i x l ∙ ap (λ z. take i xs ++ z ∷ []) (sym is))) (all_zipped_more R (take i xs) ys x y h r)
@@ -105,12 +105,12 @@ pub cases_or_in : (at : Place) (arms : Vec (Core × Core) Global) (last : Box Co
 cases_or_in at arms last = search (rules, the_lemmas, row_core_arms)
 
 -- ---- arms
--- the arms of conditions and values in turn, and what is left of them
+-- the arms of conditions and values in turn, and the rest of them
 pub arms_read : (arms : List (Core × Core)) (rest : List Core) → arms_in (exprs_of_cores (parts_of_arms arms ++ rest)) ≡ arms_of_list arms (arms_in (exprs_of_cores rest))
 arms_read [] rest = refl
 arms_read (a ∷ arms) rest = ap (more_arms (expr_of a.0) (expr_of a.1)) (arms_read arms rest)
 
--- one arm more
+-- one more arm
 pub arms_more : (arms : List (Core × Core)) (i : ℕ) (a : Core × Core) → i < length arms → a ≡ get_or arms i a → parts_of_arms (take (i + 1) arms) ≡ (parts_of_arms (take i arms) ++ a.0 ∷ []) ++ a.1 ∷ []
 arms_more arms i a l is = ap parts_of_arms (take_more arms i a l ∙ ap (λ z. take i arms ++ z ∷ []) (sym is)) ∙ at_end (take i arms) a
   where

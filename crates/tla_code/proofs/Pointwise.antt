@@ -1,4 +1,5 @@
--- Two lists whose items are related one by one: tests and evaluations that give the same at related items give the same over the lists.
+-- Two lists whose items are related one by one: tests and evaluations with the same results at related items have the
+-- same results over the lists.
 use Rattle.std.proofs.Common.{◌≡◌, suc, Bool, true, false, cond, List, [], ◌∷◌, length, refl, Option, Some, None, Ok}
 use Rattle.tla_core.specs.Lists.{each, all_hold, some_hold}
 use Rattle.tla_core.specs.Fault.{Outcome, ◌>>=◌}

@@ -1,4 +1,4 @@
--- A copy of an expression under more names has the value and the members that the expression has without them.
+-- A copy of an expression under more names has the same value and the same members.
 use Rattle.std.proofs.Common.{◌≡◌, ℕ, zero, suc, false, Ok, ◌+◌, List, [], ◌∷◌, ◌++◌, get_or, length, refl, ap, sym, ◌∙◌, arith, append_assoc}
 use Rattle.tla_value.specs.Tree.{Tree, truth}
 use Rattle.tla_core.specs.declared.expression.Opening.{Opening}

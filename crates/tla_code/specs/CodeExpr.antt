@@ -13,7 +13,8 @@ use Rattle.tla_code.specs.declared.code.Code.TheVariants.{Plain, Bound, Use, Let
 abbrev pub Scope : Type 0
 Scope = List (ℕ × Expr)
 
--- A use under more names is a copy of the definition. A use without a definition would be BOOLEAN; no code has one.
+-- A use under more names is a copy of the definition. A use without a definition is BOOLEAN, so that the function is
+-- total; no code has one.
 abbrev pub used : Place → ℕ → Option (ℕ × Expr) → Expr
 used at by None = booleans at
 used at by (Some d) = raise d.0 by d.1

@@ -1,4 +1,5 @@
--- Expressions that mention no variable, neither now nor next. Bound names they may mention. (Book, chapter 16: their level is constant.)
+-- Expressions that mention no variable, primed or not. They may mention bound names. (Book, chapter 16: their level is
+-- constant.)
 use Rattle.std.specs.Prelude.{◌≡◌, ℕ, List}
 use Rattle.std.specs.List.{All}
 use Rattle.std.proofs.Common.{Vec, Bor, Global}
@@ -65,7 +66,7 @@ abbrev mutual
   UpdatesHaveNone no_updates = Unit {0}
   UpdatesHaveNone (more_updates keys e us) = HaveNoVariables keys × HasNoVariables e × UpdatesHaveNone us
 
--- A code that mentions no variable, and stands for the same expression whatever the definitions around it.
+-- A code that mentions no variable, and denotes the same expression in every scope of definitions.
 abbrev pub IsClosed : Code → Type 0
 IsClosed c = HasNoVariables (code_expr c) × ((scope : Scope) → expr_in scope c ≡ code_expr c)
 

@@ -1,2 +1,2 @@
--- What serves the code: no public contract cites these.
+-- Definitions for the code: no public contract cites them.
 pub mod Listed

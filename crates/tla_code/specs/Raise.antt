@@ -1,13 +1,15 @@
--- A copy of an expression in another place, where more names are bound around it. A bound name is the number of its binder, counted from the outermost one. The copy numbers the names that the expression binds itself from where the new ones end, and is the same in all else. (Book, chapter 16: a bound name may be renamed.)
+-- A copy of an expression under more bound names. A bound name is the number of its binder, counted from the outermost
+-- one. So the copy differs only in the numbers of the names that the expression binds itself: they come after the new
+-- names. (Book, chapter 16: a bound name may be renamed.)
 use Rattle.std.specs.Prelude.{ℕ, ◌+◌, nat_lt, if◌then◌else◌, List, map}
 use Rattle.tla_core.specs.declared.expression.Opening.{Opening}
 use Rattle.tla_core.specs.Expr.{Expr, Exprs, Fields, Arms, Updates, constant, bound, now, next, unary, binary, equal, sub_seq, enumerated, tuple, record_of, conjunction, disjunction, implies, conditional, cases, assert, for_all, for_some, choose, image, function, except, member, not_member, subset, kind_set, booleans, sequences, power, functions, records, product, cup, cap, minus, filtered, opened, tried, no_exprs, more_exprs, no_fields, more_fields, no_arms, other, more_arms, no_updates, more_updates}
 
--- The expression is under `from` names, and its copy under `by` names more, which come after these.
+-- The expression is under `from` names, and its copy under `by` more, which come after these.
 abbrev pub raised_name : ℕ → ℕ → ℕ → ℕ
 raised_name from by i = if nat_lt i from then i else i + by
 
--- a pattern opens the element of a bound name
+-- a pattern destructures the element of a bound name
 abbrev pub raised_opening : ℕ → ℕ → Opening → Opening
 raised_opening from by o = record { name = raised_name from by o.name; items = o.items }
 

@@ -79,7 +79,6 @@ fn arranged_other<'m>(alloc: Global, core: &'m Core) -> Result<Code<'m>, AllocEr
     }
 }
 
-/// The code of an operand, in a box.
 #[cycle(arrange)]
 fn operand<'m>(alloc: Global, core: &'m Core) -> Result<Box<Code<'m>>, AllocError>
     ensures { IfOk result (λ c. StandsFor core.now c.value) }
@@ -151,7 +150,6 @@ fn list<'m>(
     Ok(Code::List(place, form, parts))
 }
 
-/// A CASE.
 #[cycle(arrange)]
 fn cases<'m>(
     alloc: Global,
@@ -252,7 +250,6 @@ fn with_items<'m>(
     Ok(Code::Destructure(place, openings, body))
 }
 
-/// The codes of some parts.
 #[cycle(arrange)]
 fn arranged_all<'m>(alloc: Global, parts: &'m [Core]) -> Result<Vec<Code<'m>>, AllocError>
     ensures { IfOk result (λ cs. AllZip StandsFor parts.now cs.items) }
@@ -277,7 +274,6 @@ fn arranged_arms<'m>(alloc: Global, arms: &'m [(Core, Core)]) -> Result<Vec<Code
     Ok(codes)
 }
 
-/// The codes of some fields.
 #[cycle(arrange)]
 fn arranged_fields<'m>(
     alloc: Global,
@@ -293,7 +289,6 @@ fn arranged_fields<'m>(
     Ok(codes)
 }
 
-/// The codes of some updates.
 #[cycle(arrange)]
 fn arranged_updates<'m>(
     alloc: Global,

@@ -84,7 +84,7 @@ pub enum BinderForm {
     Filter,
 }
 
-/// A form that binds a name for each of some sets, and evaluates a body for each choice.
+/// A form that binds a name for each of several sets, and evaluates a body for each choice.
 #[derive(Clone, Copy, Debug, PartialEq, Eq)]
 pub enum MapForm {
     /// `{e : x \in S, ..}`
@@ -93,7 +93,7 @@ pub enum MapForm {
     Function,
 }
 
-/// An expression with definitions. Definitions are numbered from the outermost one on.
+/// An expression with definitions (let-bindings), which are numbered from the outermost one on.
 #[derive(Drop)]
 pub enum Code<'m> {
     /// An expression in which nothing is shared.
@@ -114,6 +114,6 @@ pub enum Code<'m> {
     Map(Place, MapForm, Vec<Code<'m>>, Box<Code<'m>>),
     /// The function, and the updates, each the keys of its path and the new value.
     Except(Place, Box<Code<'m>>, Vec<(Vec<Code<'m>>, Code<'m>)>),
-    /// Elements that are opened, and the body, in which their items are the next bound names.
+    /// The elements to destructure, and the body, in which their items are the next bound names.
     Destructure(Place, Vec<Opening>, Box<Code<'m>>),
 }

@@ -1,9 +1,8 @@
-//! Laws of expressions that are evaluated once for several copies, over their definitions alone.
+//! Laws by which one evaluation serves several copies of an expression.
 
 ghost use Rattle.tla_code.specs.Laws.{RaiseKeepsValue, RaiseKeepsMembers, RaiseTwiceIsRaiseOnce, SteadyKeepsValue, SteadyKeepsMembers};
 
-/// A copy of an expression under more names has the value and the members that the expression has
-/// without these names.
+/// A copy of an expression under more names has the same value and the same members.
 pub fn copies()
     ensures value { RaiseKeepsValue }
     ensures members { RaiseKeepsMembers }

@@ -1,4 +1,4 @@
-//! Expressions in which a part that has a name, or occurs several times, can be a definition that other parts use.
+//! Expressions with let-bindings: a part that occurs several times can be a definition that other parts use.
 #![tactic(auto)]
 
 mod arranged;

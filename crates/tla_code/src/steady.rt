@@ -8,8 +8,8 @@ use crate::code::Code;
 use tla_core::Core;
 use tla_value::Text;
 
-/// Whether a code mentions no variable and uses no definition. FALSE says nothing: a CASE, an Assert and what has
-/// definitions of its own aren't looked into.
+/// Whether a code mentions no variable and uses no definition. FALSE means nothing: an Assert and a code with
+/// definitions of its own aren't examined.
 #[cycle(steady)]
 pub fn is_steady(code: &Code<'_>) -> bool
     ensures { IsTrue result → IsClosed code.now }

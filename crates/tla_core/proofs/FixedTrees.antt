@@ -1,4 +1,4 @@
--- What trees of constants have in common, and the nodes that they stand for.
+-- Properties of trees of constants, and the nodes that they denote.
 use Rattle.std.proofs.Common.{rules, ◌≡◌, ℕ, Bool, true, false, ◌||◌, ◌&&◌, List, Ok, map, refl, ap, sym, ◌∙◌, Vec, Global}
 use Rattle.tla_value.specs.Tree.{Tree}
 use Rattle.tla_value.specs.TreeOf.{tree_of}
@@ -27,14 +27,14 @@ use Rattle.tla_core.specs.declared.expression.Core.TheViews as views
 use Rattle.tla_core.specs.declared.expression.Core.TheViews.{the_lemmas}
 use mathlib.Core.Former.{Count}
 
--- what is so of each of the four forms
+-- a property of each of the four forms
 pub fixed_form : {A : Type 0} (f : Expr → A) (x : A) → ((p : Place) (v : Tree) → f (constant p v) ≡ x) → ((p : Place) (es : Exprs) → f (enumerated p es) ≡ x) → ((p : Place) (es : Exprs) → f (tuple p es) ≡ x) → ((p : Place) (fs : Fields) → f (record_of p fs) ≡ x) → (t : Fixed) → f (fixed_of t) ≡ x
 fixed_form f x one two three four (Constant at v) = one at (tree_of v)
 fixed_form f x one two three four (Enumerated' at _ parts) = two at (fixed_exprs parts)
 fixed_form f x one two three four (Tuple' at _ parts) = three at (fixed_exprs parts)
 fixed_form f x one two three four (Record' at _ fields) = four at (fixed_fields fields)
 
--- no next value stands in one
+-- no next value occurs in one
 mutual
   pub fixed_unprimed : (t : Fixed) → (means (fixed_of t)).primed ≡ false
   fixed_unprimed (Constant at v) = refl
@@ -50,7 +50,7 @@ mutual
   fields_unprimed n end_of-Fixed-Record-1-2 = refl
   fields_unprimed n (more_of-Fixed-Record-1-2 name e rest) = ap (λ x. x || any_primed (parts_of (mean_fields (fixed_fields rest)))) (fixed_unprimed e) ∙ fields_unprimed _ rest
 
--- and no name or variable
+-- nor a name or variable
 mutual
   pub fixed_fits : (t : Fixed) (b n : ℕ) (now : Bool) → fits (fixed_of t) b n now ≡ true
   fixed_fits (Constant at v) b n now = refl

@@ -1,4 +1,4 @@
--- Parts whose values are known: one more of them, and what a node of such parts is.
+-- Parts whose values are known: one more, and nodes of such parts.
 use Rattle.std.proofs.Common.{◌≡◌, ℕ, ◌+◌, ◌<◌, ◌≤◌, List, [], ◌∷◌, ◌++◌, length, take, get_or, zip, map, Option, Some, None, Result, Ok, Err, IfOk, IfSome, refl, ap, sym, subst, ◌∙◌, arith, Vec, Global}
 use Rattle.std.specs.List.{AllZip, AllByRecursion}
 use Rattle.std.proofs.lemmas.List.{take_more}
@@ -27,7 +27,7 @@ use Rattle.tla_core.specs.declared.expression.Core.TheViews as views
 use Rattle.tla_core.proofs.Parts.{enumerated_parts, tuple_parts, record_parts}
 use Rattle.tla_core.proofs.FixedTrees.{same_enumerated, same_tuple, same_record}
 
--- one more turn of a loop
+-- one more iteration of a loop
 pub zip_more : {A B : Type 0} (R : A → B → Type 0) (xs : List A) (ys : List B) (i : ℕ) (x : A) (y : B) → i < length xs → x ≡ get_or xs i x → AllZip R (take i xs) ys → R x y → AllZip R (take (i + 1) xs) (ys ++ y ∷ [])
 zip_more R xs ys i x y l is h r =
     subst (λ us. AllZip R us (ys ++ y ∷ [])) (sym (take_more xs i x l ∙ ap (λ z. take i xs ++ z ∷ []) (sym is))) (all_zipped_more R (take i xs) ys x y h r)
@@ -86,7 +86,7 @@ record_known p fields ps x h e = λ b s t.
     ∙ ap (make_fun p) (keys_beside fields ps h)
     ∙ e
 
--- ---- parts whose values are there are known
+-- ---- parts with values are known
 pub parts_known : (cores : List Core) (vs : List Value) → AllZip HasValue cores vs → AllByRecursion IsKnown cores
 parts_known [] [] h = tt
 parts_known [] (v ∷ vs) h = absurd h
@@ -99,19 +99,19 @@ fields_known [] (p ∷ ps) h = absurd h
 fields_known (f ∷ fs) [] h = absurd h
 fields_known (f ∷ fs) (p ∷ ps) h = (h.0.1.0, fields_known fs ps h.1)
 
--- what is so, whatever is kept
+-- a property that holds for every stored value
 pub in_any : {E : Type 0} (P : Type 0) (r : Result (Option Value) E) → P → IfOk r (λ o. IfSome o (λ (v : Value). P))
 in_any P (Ok (Some v)) h = h
 in_any P (Ok None) h = tt
 in_any P (Err e) h = tt
 
--- what is kept, where there is something
+-- the stored value, if there is one
 pub if_kept : {E : Type 0} (P Q : Value → Type 0) (r : Result (Option Value) E) → ((v : Value) → P v → Q v) → IfOk r (λ o. IfSome o P) → IfOk r (λ o. IfSome o Q)
 if_kept P Q (Ok (Some v)) f h = f v h
 if_kept P Q (Ok None) f h = h
 if_kept P Q (Err e) f h = h
 
--- ---- nodes whose value is kept
+-- ---- nodes with a stored value
 always_of : {x : Tree} (e f : Expr) (m : Meaning) → e ≡ f → means f ≡ m → IsAlways m x → IsAlways (means e) x
 always_of {x} e f m same is h = λ b s t. ap (λ (k : Meaning). k.value b s t) (ap means same ∙ is) ∙ h b s t
 

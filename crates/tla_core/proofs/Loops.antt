@@ -1,4 +1,4 @@
--- One more turn of a loop over values.
+-- One more iteration of a loop over values.
 use Rattle.std.proofs.Common.{◌≡◌, ℕ, suc, ◌+◌, ◌<◌, ◌≤◌, ◌&&◌, map, List, length, drop, get_or, Bool, true, false, cond, Ok, ap, sym, ◌∙◌, add-one, drop-cons}
 use Rattle.tla_value.specs.Tree.{Tree}
 use Rattle.tla_value.specs.TreeOf.{tree_of}

@@ -1,4 +1,4 @@
--- Of next values, besides what an expression means, only this is said: whether it has one.
+-- Whether an expression mentions a next value, besides its meaning.
 use Rattle.std.proofs.Common.{◌≡◌, Bool, true, false, ◌||◌, refl, ap, ◌∙◌}
 use Rattle.tla_value.specs.Choices.{parts_of}
 use Rattle.tla_core.specs.Expr.{Expr, Exprs, Fields, Arms, Updates, constant, bound, now, next, unary, binary, equal, sub_seq, enumerated, tuple, record_of, conjunction, disjunction, implies, conditional, cases, assert, for_all, for_some, choose, image, function, except, member, not_member, subset, kind_set, booleans, sequences, power, functions, records, product, cup, cap, minus, filtered, opened, tried, no_exprs, more_exprs, no_fields, more_fields, no_arms, other, more_arms, no_updates, more_updates}
@@ -21,7 +21,7 @@ grouped true b c = refl
 grouped false true c = refl
 grouped false false c = refl
 
--- the arms of a CASE, and what is under OTHER
+-- the arms of a CASE, and the value of OTHER
 moved : (a b c d : Bool) → (((a || b) || c) || d) ≡ (a || (b || (c || d)))
 moved true b c d = refl
 moved false b c d = or_assoc b c d

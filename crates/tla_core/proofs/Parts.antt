@@ -1,4 +1,4 @@
--- What the parts of a node mean, from the list of its parts.
+-- The meanings of the parts of a node, from the list of its parts.
 use Rattle.std.proofs.Common.{rules, ◌≡◌, ℕ, suc, ◌+◌, length, add-one, Bool, true, false, ◌&&◌, List, [], ◌∷◌, Option, Some, None, map, refl, ap, ◌∙◌, sym, Vec, Box, Global}
 use Rattle.std.specs.List.{list_all}
 use Rattle.tla_core.specs.Expr.{Expr, Arms}

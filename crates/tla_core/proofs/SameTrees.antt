@@ -1,4 +1,4 @@
--- Values that are the same, and lists whose items look the same.
+-- Equal values, and lists with equal items.
 use Rattle.std.proofs.Common.{◌≡◌, true, ℕ, ◌+◌, ◌<◌, List, [], ◌∷◌, ◌++◌, length, take, get_or, map, ap, sym, ◌∙◌}
 use Rattle.std.proofs.lemmas.List.{map-append, take_more}
 use Rattle.tla_value.specs.Tree.{text}

@@ -1,4 +1,4 @@
--- What has one value, whatever the bound names, the present and the next values are.
+-- Meanings with one value that doesn't depend on bound names or states.
 use Rattle.std.specs.Prelude.{◌≡◌, Ok}
 use Rattle.std.specs.Coded.{Coded-set}
 use Rattle.std.proofs.Props.{props}
@@ -17,6 +17,6 @@ Fault-set = Coded-set (fault.the_row).coded
 Tree-set : IsSet Tree
 Tree-set = Coded-set coded_tree
 
--- there is one proof of it at most
+-- it has at most one proof
 pub IsAlways-prop : (m : Meaning) (v : Tree) → IsProp (IsAlways m v)
 IsAlways-prop m v = hlevel (props, Fault-set, Tree-set)

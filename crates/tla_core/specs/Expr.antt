@@ -39,7 +39,7 @@ pub data Binary : Type 0 where
   Concat : Binary
   Append : Binary
 
--- sets that are known by the kind of their members: Nat, Int, STRING
+-- the sets of all values of one kind: Nat, Int, STRING
 pub data Kind : Type 0 where
   Naturals : Kind
   Integers : Kind
@@ -91,7 +91,7 @@ mutual
     cap : Place → Expr → Expr → Expr
     minus : Place → Expr → Expr → Expr
     filtered : Place → Expr → Expr → Expr
-    -- tuple patterns: a body under the items of elements, and a set whose elements fit
+    -- tuple patterns: a body under the items of destructured elements, and a set whose elements must fit the pattern
     opened : Place → List Opening → Expr → Expr
     tried : Place → ℕ → Expr → Expr
 
@@ -110,7 +110,7 @@ mutual
     other : Expr → Arms
     more_arms : Expr → Expr → Arms → Arms
 
-  -- the updates of an EXCEPT: the keys of the path, and the new value, in which the old one is the bound name after all others
+  -- the updates of an EXCEPT: the keys of the path, and the new value, in which `@` is the next bound name
   pub data Updates : Type 0 where
     no_updates : Updates
     more_updates : Exprs → Expr → Updates → Updates

@@ -119,7 +119,7 @@ abbrev mutual
   last_of None' = no_arms
   last_of (Some' _ e) = other (expr_of e)
 
--- what the parts of a list mean
+-- the meanings of the parts of a list
 abbrev pub parts_of_cores : List Core → List Meaning
 parts_of_cores [] = []
 parts_of_cores (c ∷ cs) = means (expr_of c) ∷ parts_of_cores cs
@@ -127,7 +127,7 @@ parts_of_cores (c ∷ cs) = means (expr_of c) ∷ parts_of_cores cs
 abbrev pub fields_of_cores : List (List ℕ × Core) → List (List ℕ × Meaning)
 fields_of_cores fs = map (λ (f : List ℕ × Core). (f.0, means (expr_of f.1))) fs
 
--- the expressions of an arm, and what the arms of a list mean
+-- the expressions of an arm, and the meanings of a list of arms
 abbrev pub exprs_of_arm : (Core × Core) → Expr × Expr
 exprs_of_arm a = (expr_of a.0, expr_of a.1)
 
@@ -135,7 +135,7 @@ abbrev pub arms_of_cores : List (Core × Core) → List (Meaning × Meaning)
 arms_of_cores [] = []
 arms_of_cores (a ∷ arms) = (means (expr_of a.0), means (expr_of a.1)) ∷ arms_of_cores arms
 
--- the keys and the new value of an update, and what the updates of a list mean
+-- the keys and the new value of an update, and the meanings of a list of updates
 abbrev pub updates_of_cores : List (Vec Core Global × Core) → List (List Meaning × Meaning)
 updates_of_cores [] = []
 updates_of_cores (u ∷ us) = (parts_of_cores u.0.items, means (expr_of u.1)) ∷ updates_of_cores us

@@ -1,16 +1,17 @@
--- Faults of evaluation, and how a value or a fault is handed on. (Book, chapter 14: the checker stops at a fault; the codes are this project's own.)
+-- Faults of evaluation, and how they propagate. (Book, chapter 14: the checker stops at a fault; the codes are this
+-- project's own.)
 use Rattle.std.specs.Prelude.{ℕ, List, Result, Ok, Err, Some, None, codes}
 pub use Rattle.tla_core.specs.declared.fault.Place.{Place}
 pub use Rattle.tla_core.specs.declared.fault.Fault.{Fault}
 pub use Rattle.tla_core.specs.declared.fault.FaultCode.{FaultCode}
 pub use Rattle.tla_core.specs.declared.fault.FaultCode.TheVariants.{WrongKind, Overflow, SmallDivisor, NegativeExponent, OutsideDomain, NoField, NoChoice, NoArm, NotEnumerable, TooMany, TooDeep, EmptySequence, NotSet, AssertFalse, Unassigned, Memory}
 
--- what an evaluation gives: a value or its first fault
+-- the result of an evaluation: a value, or its first fault
 abbrev pub Outcome : Type 0 → Type 0
 Outcome A = Result A Fault
 
 infixl 20 ◌>>=◌
--- goes on with a value; a fault is the answer at once
+-- continues with a value; a fault is the result at once
 abbrev pub ◌>>=◌ : {A B : Type 0} → Outcome A → (A → Outcome B) → Outcome B
 (Ok x) >>= k = k x
 (Err f) >>= k = Err f

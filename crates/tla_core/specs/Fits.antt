@@ -1,4 +1,5 @@
--- Whether the names of an expression exist: its bound names, where b are bound outside, its variables, where there are n, and those with a present value, where there is a present state. (This project's own choice: the condition of whoever evaluates it.)
+-- Whether the names of an expression exist, if b names are bound outside it, there are n variables, and s says whether
+-- there is a present state. (This project's own choice: what an evaluation requires.)
 use Rattle.std.specs.Prelude.{◌≡◌, ℕ, ◌+◌, ◌≤◌, ◌^◌, nat_lt, Bool, true, ◌&&◌, Option, Some, None}
 use Rattle.std.specs.List.{list_all}
 use Rattle.tla_core.specs.declared.expression.Opening.{Opening}
@@ -28,7 +29,7 @@ abbrev mutual
   fits (conditional p a c d) b n s = fits a b n s && (fits c b n s && fits d b n s)
   fits (cases p arms) b n s = fits_arms arms b n s
   fits (assert p a c) b n s = fits a b n s && fits c b n s
-  -- a form that binds has more names in its body
+  -- the body of a form that binds has more names
   fits (for_all p a e) b n s = fits a b n s && fits e (b + 1) n s
   fits (for_some p a e) b n s = fits a b n s && fits e (b + 1) n s
   fits (choose p a e) b n s = fits a b n s && fits e (b + 1) n s
@@ -49,7 +50,7 @@ abbrev mutual
   fits (cap p a c) b n s = fits a b n s && fits c b n s
   fits (minus p a c) b n s = fits a b n s && fits c b n s
   fits (filtered p a e) b n s = fits a b n s && fits e (b + 1) n s
-  -- an opened name is bound outside, and each item is a name more
+  -- a destructured name is bound outside, and each item is one more name
   fits (opened p os e) b n s = list_all (λ (o : Opening). nat_lt o.name b) os && fits e (b + items_in os) n s
   fits (tried p k a) b n s = fits a b n s
 
@@ -71,7 +72,7 @@ abbrev mutual
   fits_updates no_updates b n s = true
   fits_updates (more_updates keys e us) b n s = fits_all keys b n s && (fits e (b + 1) n s && fits_updates us b n s)
 
--- a number of names, where the code counts them: none where 2 ^ 64 or more are bound
+-- the code's count of names: none if there are 2 ^ 64 or more
 abbrev pub Counts : Option ℕ → ℕ → Type 0
 Counts (Some k) n = n ≡ k
 Counts None n = 2 ^ 64 ≤ n

@@ -1,4 +1,5 @@
--- Forms that bind several names, and EXCEPT. (Book, chapter 16; what EXCEPT leaves unevaluated is this project's own choice.)
+-- Forms that bind several names, and EXCEPT. (Book, chapter 16; what EXCEPT leaves unevaluated is this project's own
+-- choice.)
 use Rattle.std.specs.Prelude.{ℕ, max, Bool, ◌||◌, List, [], ◌∷◌, ◌++◌, map, length, zip, Option, Some, None, Ok}
 use Rattle.std.specs.List.{list_any}
 use Rattle.tla_value.specs.Tree.{Tree, fun, pairs, deepest_pair}
@@ -21,17 +22,17 @@ means-image p ms e = by_value p (any_primed ms || e.primed) (λ b s t. do
   vs ← each (λ c. e.value (b ++ c) s t) (choices sets)
   make_set p vs)
 
--- the argument for one choice: a tuple where there are several names
+-- the argument for one choice: a tuple if there are several names
 abbrev pub argument_of : List Tree → Tree
 argument_of (v ∷ []) = v
 argument_of vs = sequence vs
 
--- how long the arguments are: as many items as there are names and elements of patterns
+-- the length of each choice; 0 if there are no choices
 abbrev pub names_in : List (List Tree) → ℕ
 names_in [] = 0
 names_in (c ∷ cs) = length c
 
--- the function with these values; an argument that is too long is too many elements like a function that is
+-- the function with these values; too many pairs, or too many items in an argument, is the fault TooMany
 abbrev pub function_on : Place → List (List Tree) → List Tree → Outcome Tree
 function_on p cs vs =
     let ps = fun_of (zip (map argument_of cs) vs) in
@@ -43,7 +44,7 @@ means-function p ms e = by_value p (any_primed ms || e.primed) (λ b s t. do
   vs ← each (λ c. e.value (b ++ c) s t) (choices sets)
   function_on p (choices sets) vs)
 
--- the value at the rest of the path, if there is one, gives way to a new one
+-- replaces the value at a key by the result of `go`; a key outside the domain changes nothing
 abbrev pub replaced : Place → List (Tree × Tree) → Tree → Option Tree → (Tree → Outcome Tree) → Outcome Tree
 replaced p ps key None go = Ok (fun (pairs ps))
 replaced p ps key (Some old) go = do

@@ -1,4 +1,5 @@
--- The kinds of values, and the limits of those that are made. A value of the wrong kind is a fault of the node. (Book, chapter 16; the limits are this project's own choice.)
+-- The kinds of values, and the limits of new values. A value of the wrong kind is a fault of the node. (Book,
+-- chapter 16; the limits are this project's own choice.)
 use Rattle.std.specs.Prelude.{ℕ, ◌-◌, max, nat_lt, ℤ, pos, negsuc, int_le, Bool, ◌&&◌, List, length, Option, Some, None, Ok, if◌then◌else◌}
 use Rattle.tla_value.specs.Tree.{Tree, truth, int, set, fun, trees, pairs, members, entries, deepest, deepest_pair}
 use Rattle.tla_value.specs.Sets.{set_of, most_pairs}
@@ -23,7 +24,7 @@ abbrev pub as_fun : Place → Tree → Outcome (List (Tree × Tree))
 as_fun p (fun ps) = Ok (entries ps)
 as_fun p _ = fault WrongKind p
 
--- the members, the pairs and the items of values that have them
+-- the members of a set, the pairs of a function, the items of a sequence
 abbrev pub members_of : Tree → Option (List Tree)
 members_of (set ts) = Some (members ts)
 members_of _ = None
@@ -44,17 +45,17 @@ or_fault code p None = fault code p
 abbrev pub as_sequence : Place → Tree → Outcome (List Tree)
 as_sequence p t = or_fault WrongKind p (items t)
 
--- ---- values that are made: first the number of members or pairs, then the nesting
+-- ---- limits of new values: first the number of members or pairs, then the nesting
 abbrev pub within : Place → ℕ → ℕ → Tree → Outcome Tree
 within p count depth t =
     if nat_lt MAX_ELEMENTS count then fault TooMany p
     else (if nat_lt (MAX_NESTING - 1) depth then fault TooDeep p else Ok t)
 
--- how many functions there are in a set of them, or how many pairs the longest has if that is more: this is held against the limit on elements
+-- the greater of the number of functions and the most pairs of one; it must be within the limit on elements
 abbrev pub size_of_functions : List Tree → ℕ
 size_of_functions ts = max (length ts) (most_pairs ts)
 
--- the set with these members, which rise, where `size` is the greatest number of members or pairs in it
+-- the set with these rising members, where `size` is the greatest number of members or pairs in it
 abbrev pub sized_set : Place → ℕ → List Tree → Outcome Tree
 sized_set p size ts = within p size (deepest (trees ts)) (set (trees ts))
 
@@ -69,7 +70,7 @@ make_function_set p ts = sized_set p (size_of_functions (set_of ts)) (set_of ts)
 abbrev pub make_set : Place → List Tree → Outcome Tree
 make_set p ts = rising_set p (set_of ts)
 
--- the function with these pairs, which rise, and the function of some pairs: of two with one argument the first counts
+-- the function of rising pairs, and of any pairs: of two with the same argument the first counts
 abbrev pub rising_fun : Place → List (Tree × Tree) → Outcome Tree
 rising_fun p ps = within p (length ps) (deepest_pair (pairs ps)) (fun (pairs ps))
 

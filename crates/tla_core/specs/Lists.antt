@@ -11,7 +11,7 @@ each f (x ∷ xs) = do
   ys ← each f xs
   Ok (y ∷ ys)
 
--- up to the first that is FALSE, and up to the first that is TRUE
+-- whether all are TRUE, up to the first that is FALSE; whether some is TRUE, up to the first that is
 abbrev pub all_hold : {A : Type 0} → (A → Outcome Bool) → List A → Outcome Bool
 all_hold test [] = Ok true
 all_hold test (x ∷ xs) = do
@@ -39,7 +39,7 @@ first_passing p test (x ∷ xs) = do
   holds ← test x
   cond holds (Ok x) (first_passing p test xs)
 
--- the first arm whose condition is TRUE, or else the last one
+-- the first arm whose condition is TRUE, else the last one; without one, the fault NoArm
 abbrev pub taken : {M R A : Type 0} → Place → (M → Outcome Bool) → (R → Outcome A) → List (M × R) → Option R → Outcome A
 taken p ask go [] None = fault NoArm p
 taken p ask go [] (Some r) = go r

@@ -24,7 +24,7 @@ abbrev pub last_primed : Option Meaning → Bool
 last_primed None = false
 last_primed (Some m) = m.primed
 
--- IF is a CASE of one arm; members are asked of the arm that is taken
+-- IF is a CASE of one arm; membership is that in the arm taken
 abbrev pub means-cases : Place → List (Meaning × Meaning) → Option Meaning → Meaning
 means-cases p arms last = record {
   place = p;
@@ -39,7 +39,7 @@ means-assert p a c = by_value p (a.primed || c.primed) (λ b s t. do
   holds ← asks p a b s t
   cond holds (Ok (truth true)) (fault AssertFalse p))
 
--- ---- one bound name: the set, then the body for rising elements
+-- ---- one bound name: evaluates the set, then the body for its elements in rising order
 abbrev pub means-for_all : Place → Meaning → Meaning → Meaning
 means-for_all p a e = by_value p (a.primed || e.primed) (λ b s t. do
   xs ← elements p a b s t

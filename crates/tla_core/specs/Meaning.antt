@@ -1,4 +1,5 @@
--- What an expression means: its value, and which values are its members. Each form makes its meaning from those of its parts. (Book, chapter 16; faults, and what is left unevaluated, are this project's own choice.)
+-- What an expression means: its value, and which values are its members. The meaning of a form is built from those of
+-- its parts. (Book, chapter 16; faults, and what is left unevaluated, are this project's own choice.)
 use Rattle.std.specs.Prelude.{ℕ, Bool, true, false, ◌||◌, List, get_or, zip, Option, Some, None, Ok, slice_get}
 use Rattle.std.specs.List.{list_any}
 use Rattle.std.specs.Coded.{Coded, coded_list, coded_option}
@@ -17,14 +18,14 @@ use Rattle.tla_core.specs.Lists.{each}
 abbrev pub Bound : Type 0
 Bound = List Tree
 
--- the present state, if there is one, and the next value of each variable, where it has one
+-- the present state, if there is one; the next value of each variable, if it is set
 abbrev pub Present : Type 0
 Present = Option (List Tree)
 
 abbrev pub Next : Type 0
 Next = List (Option Tree)
 
--- how such a list is kept where proofs compare two
+-- an encoding of such lists, for proofs that compare two
 abbrev pub coded_next : Coded Next
 coded_next = coded_list (coded_option coded_tree)
 
@@ -73,7 +74,7 @@ by_value p primed value = record {
 abbrev pub means-constant : Place → Tree → Meaning
 means-constant p v = by_value p false (λ b s t. Ok v)
 
--- a name that is not there has the value FALSE: total, though a caller's condition excludes it
+-- A name that doesn't exist has the value FALSE, so that the function is total; the requirements of callers exclude it.
 abbrev pub means-bound : Place → ℕ → Meaning
 means-bound p i = by_value p false (λ b s t. Ok (get_or b i (truth false)))
 

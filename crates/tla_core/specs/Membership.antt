@@ -1,4 +1,5 @@
--- Membership, and the sets that are known by the kind of their members. (Book, chapters 16 and 18; what is left unevaluated is this project's own choice.)
+-- Membership, and the sets of all values of one kind. (Book, chapters 16 and 18; what is left unevaluated is this
+-- project's own choice.)
 use Rattle.std.specs.Prelude.{pos, int_le, Bool, true, false, not, ◌||◌, [], ◌∷◌, Option, Some, None, Ok}
 use Rattle.tla_value.specs.Tree.{Tree, truth, int, text, set, trees}
 use Rattle.tla_core.specs.Fault.{Place, NotEnumerable, Outcome, ◌>>=◌, fault}
@@ -52,7 +53,7 @@ means-booleans p = record {
   has = λ v b s t. Ok (is_truth v);
 }
 
--- nothing is asked of a value of another kind
+-- FALSE for a value of another kind, without evaluating anything
 abbrev pub if_some : {A : Type 0} → Option A → (A → Outcome Bool) → Outcome Bool
 if_some None go = Ok false
 if_some (Some x) go = go x

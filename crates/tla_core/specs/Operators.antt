@@ -1,4 +1,5 @@
--- What an operator gives of the values of its operands. (Book, chapters 16 and 18; `0 ^ 0 = 1` and the faults are this project's own choice.)
+-- Operators applied to the values of their operands. (Book, chapters 16 and 18; `0 ^ 0 = 1` and the faults are this
+-- project's own choice.)
 use Rattle.std.specs.Prelude.{◌+◌, ℤ, pos, negsuc, ◌+ℤ◌, ◌-ℤ◌, ◌*ℤ◌, neg_ℤ, int_lt, int_le, true, not, ◌||◌, List, [], ◌∷◌, ◌++◌, length, take, drop, Ok, if◌then◌else◌, unsigned_abs}
 use Rattle.std.specs.Int.{int_div_euclid, int_rem_euclid, int_pow}
 use Rattle.tla_value.specs.Tree.{Tree, truth, int, text, set, trees}

@@ -21,7 +21,7 @@ abbrev pub items_in : List Opening → ℕ
 items_in [] = 0
 items_in (o ∷ os) = o.items + items_in os
 
--- the items of the elements that these bound names have, one after the other
+-- the items of the elements of these bound names, concatenated
 abbrev pub opened_items : Place → List Opening → Bound → Outcome (List Tree)
 opened_items p [] b = Ok []
 opened_items p (o ∷ os) b = do
@@ -29,13 +29,13 @@ opened_items p (o ∷ os) b = do
   ys ← opened_items p os b
   Ok (xs ++ ys)
 
--- a body under the names of patterns: they come after all others
+-- a body under the names of patterns, which come after all others
 abbrev pub means-opened : Place → List Opening → Meaning → Meaning
 means-opened p os e = by_value p e.primed (λ b s t. do
   xs ← opened_items p os b
   e.value (b ++ xs) s t)
 
--- a set whose elements fit. If the value is no set, the form that binds faults.
+-- a set whose elements fit the pattern. Any other value passes: the form that binds faults.
 abbrev pub tried_set : Place → ℕ → Tree → Outcome Tree
 tried_set p k (set vs) = do
   xss ← each (fitting p k) (members vs)
@@ -46,7 +46,7 @@ tried_set p k (text x) = Ok (text x)
 tried_set p k (model x) = Ok (model x)
 tried_set p k (fun ps) = Ok (fun ps)
 
--- a set, all elements of which are tried as soon as it was evaluated
+-- a set whose elements are all checked right after its evaluation
 abbrev pub means-tried : Place → ℕ → Meaning → Meaning
 means-tried p k a = by_value p a.primed (λ b s t. do
   v ← a.value b s t

@@ -1,4 +1,5 @@
--- Sets with a rule of their own for membership. (Book, chapter 16; what is left unevaluated is this project's own choice.)
+-- Sets with a rule of their own for membership. (Book, chapter 16; what is left unevaluated is this project's own
+-- choice.)
 use Rattle.std.specs.Prelude.{ℕ, ◌==◌, Bool, true, false, cond, not, ◌||◌, List, [], ◌∷◌, ◌++◌, map, filter, length, zip, Ok}
 use Rattle.tla_value.specs.Tree.{Tree, text, set, trees}
 use Rattle.tla_value.specs.Order.{tree_eq}
@@ -12,7 +13,7 @@ use Rattle.tla_core.specs.Meaning.{Meaning, Bound, Present, Next, asks, elements
 use Rattle.tla_core.specs.Functions.{sets_of}
 use Rattle.tla_core.specs.Membership.{if_some}
 
--- a set made of two
+-- an operator on two sets
 abbrev pub on_sets : Place → (List Tree → List Tree → List Tree) → Tree → Tree → Outcome Tree
 on_sets p rule x y = do
   xs ← as_set p x
@@ -66,7 +67,7 @@ means-records p fs = record {
       cond (tree_eq (set (trees (arguments ps))) (set (trees (set_of (keys_of fs))))) (all_hold (field_has ps b s t) fs) (Ok false));
 }
 
--- S \X T ..: part by part, where the lengths agree
+-- S \X T ..: item by item, if the lengths agree
 abbrev pub parts_have : List Meaning → List Tree → Bound → Present → Next → Outcome Bool
 parts_have [] [] b s t = Ok true
 parts_have [] (v ∷ vs) b s t = Ok false

@@ -74,7 +74,7 @@ abbrev mutual
   mean_updates no_updates = []
   mean_updates (more_updates keys e us) = (mean_all keys, means e) ∷ mean_updates us
 
--- the value of an expression, or its first fault, where the names have the values b, the variables now s and next t
+-- the value of an expression, or its first fault, with bound names b, present state s and next values t
 abbrev pub val : Expr → Bound → Present → Next → Outcome Tree
 val e b s t = (means e).value b s t
 

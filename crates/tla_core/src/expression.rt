@@ -56,7 +56,7 @@ pub enum Binary {
     Append,
 }
 
-/// A set that is known by the kind of its members.
+/// An infinite set of all values of one kind.
 #[derive(Clone, Copy, Debug, PartialEq, Eq)]
 pub enum Kind {
     /// `Nat`
@@ -67,7 +67,7 @@ pub enum Kind {
     Strings,
 }
 
-/// A bound name whose element is opened: it is a sequence of this many items.
+/// A bound name whose element a tuple pattern destructures into this many items.
 #[derive(Clone, Copy, Debug, PartialEq, Eq)]
 pub struct Opening {
     pub name: usize,
@@ -92,7 +92,7 @@ pub enum Core {
     Equal(Place, Box<Core>, Box<Core>),
     /// `r.a`
     Field(Place, Text, Box<Core>),
-    /// The sequence, and the first and the last place.
+    /// The sequence, and the first and the last index.
     SubSeq(Place, Box<Core>, Box<Core>, Box<Core>),
     /// `{e, ..}`
     Enumerated(Place, Vec<Core>),
@@ -148,11 +148,11 @@ pub enum Core {
     Minus(Place, Box<Core>, Box<Core>),
     /// `{x \in S : p}`: the set, and the body.
     Filter(Place, Box<Core>, Box<Core>),
-    /// Elements that are opened, and the body, in which their items are the next bound names.
+    /// The elements to destructure, and the body, in which their items are the next bound names.
     Destructure(Place, Vec<Opening>, Box<Core>),
     /// A set whose elements must be sequences of this many items.
     CheckPattern(Place, usize, Box<Core>),
-    /// An expression that is made of constants alone, with its value.
+    /// An expression of constants alone, with its value.
     Literal(Literal),
 }
 

@@ -1,4 +1,4 @@
-//! Expressions that are made of constants alone.
+//! Expressions of constants alone.
 ghost use Rattle.std.specs.Prelude.{◌≡◌};
 
 use crate::fault::Place;

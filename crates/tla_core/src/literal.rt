@@ -1,4 +1,4 @@
-//! Expressions whose value is kept.
+//! Expressions stored with their value.
 ghost use Rattle.std.specs.Prelude.{◌≡◌};
 ghost use Rattle.tla_value.specs.TreeOf.{tree_of};
 ghost use Rattle.tla_core.specs.Value.{means};
@@ -11,7 +11,7 @@ use crate::same::same_tree;
 use std::alloc::{AllocError, Global};
 use tla_value::Value;
 
-/// An expression that is made of constants alone, and its value, which it has whatever the bound names and the states are.
+/// An expression of constants alone, with its value, which doesn't depend on bound names or states.
 #[derive(Drop)]
 pub struct Literal {
     tree: Box<Fixed>,

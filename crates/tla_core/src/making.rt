@@ -1,4 +1,4 @@
-//! Nodes whose value is kept, where the values of all their parts are known.
+//! Builds nodes, as literals if the values of all their parts are known.
 ghost use Rattle.std.specs.Prelude.{◌≡◌, IfSome, IfOk, Ok, List, true, map};
 ghost use Rattle.std.specs.List.{AllZip, AllByRecursion};
 ghost use Rattle.tla_value.specs.Tree.{Tree, text};
@@ -20,7 +20,7 @@ use crate::literal::Literal;
 use std::alloc::{AllocError, Global};
 use tla_value::{FunValue, SetValue, Text, Value, ValueError};
 
-/// The value of an expression, where it is known.
+/// The value of an expression, if it is known.
 fn known_value(core: &Core) -> Option<&Value>
     ensures { IfSome result (λ v. HasValue core.now v.now) }
 {
@@ -50,7 +50,7 @@ fn copied_name(alloc: Global, name: &Text) -> Result<Value, AllocError>
     }
 }
 
-/// The values of some parts, where they are known.
+/// The values of some parts, if all are known.
 fn known_values(alloc: Global, parts: &[Core]) -> Result<Option<Vec<Value>>, AllocError>
     ensures { IfOk result (λ o. IfSome o (λ v. AllZip HasValue parts.now v.items)) }
 {
@@ -64,7 +64,7 @@ fn known_values(alloc: Global, parts: &[Core]) -> Result<Option<Vec<Value>>, All
     Ok(Some(values))
 }
 
-/// The names and values of some fields, where the values are known.
+/// The names and values of some fields, if all values are known.
 fn known_fields(
     alloc: Global,
     fields: &[(Text, Core)],
@@ -82,7 +82,7 @@ fn known_fields(
     Ok(Some(pairs))
 }
 
-/// A set that was made, if it is within the limits.
+/// The set, or none if it exceeds a limit.
 fn set_within(made: Result<SetValue, ValueError>) -> Result<Option<Value>, AllocError>
     ensures { (ts : List Tree)
         → MakesSet ts made
@@ -95,7 +95,7 @@ fn set_within(made: Result<SetValue, ValueError>) -> Result<Option<Value>, Alloc
     }
 }
 
-/// A function that was made, if it is within the limits.
+/// The function, or none if it exceeds a limit.
 fn fun_within(made: Result<FunValue, ValueError>) -> Result<Option<Value>, AllocError>
     ensures { (ps : List (Tree × Tree))
         → MakesFun ps made
@@ -108,7 +108,7 @@ fn fun_within(made: Result<FunValue, ValueError>) -> Result<Option<Value>, Alloc
     }
 }
 
-/// The set of some parts, where it is known.
+/// The set of some parts, if it is known.
 fn known_set(alloc: Global, parts: &[Core]) -> Result<Option<Value>, AllocError>
     ensures known { IfOk result (λ o. IfSome o (λ _. AllByRecursion IsKnown parts.now)) }
     ensures value { IfOk result (λ o.
@@ -121,7 +121,7 @@ fn known_set(alloc: Global, parts: &[Core]) -> Result<Option<Value>, AllocError>
     }
 }
 
-/// The sequence of some parts, where it is known.
+/// The sequence of some parts, if it is known.
 fn known_tuple(alloc: Global, parts: &[Core]) -> Result<Option<Value>, AllocError>
     ensures known { IfOk result (λ o. IfSome o (λ _. AllByRecursion IsKnown parts.now)) }
     ensures value { IfOk result (λ o.
@@ -134,7 +134,7 @@ fn known_tuple(alloc: Global, parts: &[Core]) -> Result<Option<Value>, AllocErro
     }
 }
 
-/// The record of some fields, where it is known.
+/// The record of some fields, if it is known.
 fn known_record(alloc: Global, fields: &[(Text, Core)]) -> Result<Option<Value>, AllocError>
     ensures known { IfOk result (λ o. IfSome o (λ _. AllByRecursion IsKnownField fields.now)) }
     ensures value { IfOk result (λ o.
@@ -184,7 +184,7 @@ fn fixed_fields(alloc: Global, fields: Vec<(Text, Core)>) -> Result<Vec<(Text, F
 }
 
 impl Core {
-    /// `{e, ..}`. Its value is kept where it is known and within the limits.
+    /// `{e, ..}`: a literal if its value is known and within the limits. Fails only if memory ran out.
     pub fn set_of(alloc: Global, place: Place, parts: Vec<Core>) -> Result<Core, AllocError>
         ensures { IfOk result (λ c. expr_of c ≡ expr_of (Core.Enumerated place parts)) }
     {
@@ -197,7 +197,7 @@ impl Core {
         }
     }
 
-    /// `<<e, ..>>`. Its value is kept where it is known and within the limits.
+    /// `<<e, ..>>`: a literal if its value is known and within the limits. Fails only if memory ran out.
     pub fn tuple_of(alloc: Global, place: Place, parts: Vec<Core>) -> Result<Core, AllocError>
         ensures { IfOk result (λ c. expr_of c ≡ expr_of (Core.Tuple place parts)) }
     {
@@ -210,7 +210,7 @@ impl Core {
         }
     }
 
-    /// `[a |-> e, ..]`. Its value is kept where it is known and within the limits.
+    /// `[a |-> e, ..]`: a literal if its value is known and within the limits. Fails only if memory ran out.
     pub fn record_of(
         alloc: Global,
         place: Place,

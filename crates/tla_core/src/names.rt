@@ -11,8 +11,8 @@ use crate::expression::{Core, Opening};
 use tla_value::Text;
 
 impl Core {
-    /// Whether each bound name of the expression exists where `bound` names are bound outside,
-    /// each variable where there are `variables`, and each present value where there is a present state (`now`).
+    /// Whether every name of the expression exists, if `bound` names are bound outside it, there are `variables`
+    /// variables, and there is a present state (`now`) or none.
     pub fn fits(&self, bound: usize, variables: usize, now: bool) -> bool
         ensures { result ≡ fits (expr_of self.now) bound variables now }
     {
@@ -20,7 +20,7 @@ impl Core {
     }
 }
 
-/// A number of names and `more`. None means more names than there are indices.
+/// The number of names plus `more`; none if it is no `usize`.
 fn with_more(names: Option<usize>, more: usize) -> Option<usize>
     ensures { (n : ℕ) → Counts names n → Counts result (n + more) }
 {
@@ -40,7 +40,7 @@ fn has_name(names: Option<usize>, index: usize) -> bool
     }
 }
 
-/// Whether each name that is opened exists.
+/// Whether the bound name of each opening exists.
 fn are_bound(openings: &[Opening], names: Option<usize>) -> bool
     ensures { (n : ℕ)
         → Counts names n
@@ -54,7 +54,7 @@ fn are_bound(openings: &[Opening], names: Option<usize>) -> bool
     true
 }
 
-/// The number of names with the items of these elements.
+/// The number of names plus the items of these openings.
 fn with_items(openings: &[Opening], names: Option<usize>) -> Option<usize>
     ensures { (n : ℕ) → Counts names n → Counts result (n + items_in openings.now) }
 {

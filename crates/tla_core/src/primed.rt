@@ -1,4 +1,4 @@
-//! Whether an expression speaks of the next state.
+//! Whether an expression mentions the next state.
 ghost use Rattle.std.specs.Prelude.{◌≡◌};
 ghost use Rattle.tla_core.specs.ExprOf.{expr_of, parts_of_cores, fields_of_cores, arms_of_cores, updates_of_cores};
 ghost use Rattle.tla_core.specs.Logic.{arms_primed};

@@ -1,4 +1,5 @@
--- What isn't there under some primes isn't there under more, nor with UNCHANGED or as a subscript; and what fails there fails in the whole.
+-- What isn't there under some primes isn't there under more, nor with UNCHANGED or as a subscript; and what fails
+-- there fails in the whole.
 use Rattle.std.proofs.Common.{◌≡◌, ◌≤◌, ℕ, ◌+◌, Bool, true, false, refl, ap, sym, ◌∙◌, arith, subst, map, List, Option, Some, None, Result, Ok, Err, Bor, Vec, Global}
 use Rattle.std.specs.Prelude.{IfOk, IfErr}
 use Rattle.tla_core.specs.declared.fault.Place.{Place}

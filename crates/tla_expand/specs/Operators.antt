@@ -1,4 +1,5 @@
--- The operators that have an expansion (book, chapter 15). None for those of time, and for UNCHANGED and \X, which are forms of their own.
+-- The operators that have an expansion (book, chapter 15). None for those of time, and for UNCHANGED and \X, which
+-- are forms of their own.
 use Rattle.std.specs.Prelude.{Option, Some, None}
 use Rattle.tla_core.specs.declared.expression.Unary.TheVariants as u
 use Rattle.tla_core.specs.declared.expression.Binary.TheVariants as b

@@ -1,4 +1,5 @@
--- The scopes that a list of entries makes: entry k makes the scope k + 1 from earlier ones. Scope 0 is that of the modules.
+-- The scopes that a list of entries makes: entry k makes the scope k + 1 from earlier ones. Scope 0 is that of the
+-- modules.
 use Rattle.std.specs.Prelude.{◌≡◌, ℕ, ◌+◌, ◌≤◌, List, [], ◌∷◌, ◌++◌, map, get_or}
 use Rattle.tla_tree.specs.declared.tree.Expr as s
 use Rattle.tla_tree.specs.Tree.{binders}

@@ -1,4 +1,5 @@
--- UNCHANGED e is e' = e, and where e is a tuple the conjunction of UNCHANGED of each part, TRUE where it has none (book, chapter 16).
+-- UNCHANGED e is e' = e, and where e is a tuple the conjunction of UNCHANGED of each part, TRUE where it has none
+-- (book, chapter 16).
 use Rattle.std.specs.Prelude.{Option, Some}
 use Rattle.tla_core.specs.declared.fault.Place.{Place}
 use Rattle.tla_core.specs.Expr.{Expr, Exprs, Unequal, tuple, equal, binary, no_exprs, more_exprs}

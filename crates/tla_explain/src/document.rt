@@ -15,10 +15,10 @@ use tla_traces::named::Named;
 use tla_value::State;
 use tla_verdict::{Answer, Part};
 
-/// Writes the report and its explanation as one JSON object: `status`, `first_line`, `report`,
-/// `code` and `place` of a refusal or a fault, `trace`, each state with the texts of its values,
-/// `counts`, and `explanation`, in which values are shown whole, with `coverage` also the steps of each
-/// part of Next. An error means that memory ran out, or a write failed.
+/// Writes the report and its explanation as one JSON object: `status`, `first_line`, `report`, `code` and `place` of a
+/// refusal or a fault, `trace` (each state with the texts of its values), `counts`, and `explanation`, in which values
+/// are shown whole. With `coverage`, the explanation has the steps of each part of Next. An error means that memory ran
+/// out or a write failed.
 pub fn write_document<'a, W: Write>(
     alloc: Global,
     writer: &mut W,
@@ -60,7 +60,7 @@ pub fn write_document<'a, W: Write>(
     writer.write_all(b"\n")
 }
 
-/// What a run prints.
+/// The texts of a run.
 #[derive(Clone, Copy)]
 struct Texts<'a> {
     report: &'a str,
@@ -95,7 +95,7 @@ fn document_of(
     })
 }
 
-/// The fault of a search, if it found one, and the part in which it was met.
+/// The fault of a search, if it found one, and the part of the specification that faulted.
 fn fault_of(checked: &Checked) -> Option<(&Fault, Part)> {
     match checked {
         Checked::Answered(
@@ -149,7 +149,7 @@ fn place_value(
     }
 }
 
-/// The file that has the places of the formula of a part.
+/// The file to which the places of the formula of a part refer.
 fn source_of(alloc: Global, sources: &Sources<'_>, part: Part) -> Result<Source, AllocError> {
     let Some(named) = Named::read(alloc, sources) else {
         return Ok(Source::Module);
@@ -166,7 +166,7 @@ fn file_place(alloc: Global, file: &str, place: Place) -> Result<Value, AllocErr
     json!(in alloc; {"file": file, "line": line, "column": column})
 }
 
-/// How many levels and states the search went through, or null.
+/// The numbers of levels and states searched, or null.
 fn counts_value(alloc: Global, checked: &Checked) -> Result<Value, AllocError> {
     let Checked::Answered(answered) = checked else {
         return Ok(Value::Null);

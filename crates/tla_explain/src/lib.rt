@@ -1,8 +1,7 @@
-//! What a check answers, explained: where it is in the files, what the rule is, what was probably
-//! meant, what each step of a trace changes, and which parts of Next made steps. Also the states as a
-//! graph, and a run as a document.
+//! Explanations of the answer of a check: the place in the files, the rule, what was probably meant, what each step of
+//! a trace changes, and which parts of Next made steps. Also the states as a graph, and a run as a JSON document.
 //!
-//! Nothing here changes a report. All is made from the answer and the two texts.
+//! Nothing here changes a report. Everything is derived from the answer and the two texts.
 #![tactic(auto)]
 
 mod document;
@@ -22,9 +21,9 @@ pub use tla_page::style::Style;
 use tla_report::Checked;
 use tla_traces::coverage::put_coverage;
 
-/// Writes what a check of these two texts answered, for a reader at a terminal or an editor. Where
-/// there is no error, there are only notes, and with `style.coverage` the steps of each part of Next.
-/// An error means that memory ran out, or a write failed.
+/// Writes the explanation of the answer of a check of two texts, for a user at a terminal or an editor. If no error was
+/// found, writes only notes, and with `style.coverage` the steps of each part of Next. An error means that memory ran
+/// out or a write failed.
 pub fn explain<'a, W: Write>(
     alloc: Global,
     writer: &mut W,
@@ -65,7 +64,7 @@ fn explain_checked(output: &mut Output, sources: &Sources<'_>, checked: &Checked
     }
 }
 
-/// Hints at the order of the two files, where their names have each other's endings.
+/// Hints at the order of the two files, if their names have each other's extensions.
 fn hint_order(output: &mut Output, names: &FileNames<'_>) {
     if names.module.ends_with(".cfg") || names.configuration.ends_with(".tla") {
         output.hint(&[

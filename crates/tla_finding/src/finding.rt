@@ -1,4 +1,4 @@
-//! What is found about a refusal.
+//! The explanation of a refusal.
 
 use std::alloc::Global;
 use tla_config::Source;
@@ -6,7 +6,7 @@ use tla_lex::Place;
 use tla_page::output::Output;
 use tla_page::places::{Sources, core_place};
 
-/// A second place that is shown, and what is there.
+/// A second place to show, and the text about it.
 #[derive(Drop)]
 pub struct Beside {
     pub source: Source,
@@ -14,8 +14,7 @@ pub struct Beside {
     pub title: Output,
 }
 
-/// Where an explanation points, what it says is wrong there, another place that has to do with it,
-/// and what helps.
+/// Where an explanation points, what is wrong there, another place that has to do with it, and hints.
 #[derive(Drop)]
 pub struct Finding {
     pub place: Place,
@@ -25,7 +24,7 @@ pub struct Finding {
 }
 
 impl Finding {
-    /// Nothing yet but the place.
+    /// A finding with nothing but a place.
     pub fn at(alloc: Global, place: Place) -> Finding {
         Finding {
             place,
@@ -39,7 +38,7 @@ impl Finding {
         self.title.alloc()
     }
 
-    /// Points at a place, and says what is wrong there, in these texts.
+    /// Points at a place, and says in these texts what is wrong there.
     pub fn say(&mut self, place: Place, texts: &[&str]) {
         self.place = place;
         self.title.put(texts);
@@ -61,7 +60,7 @@ impl Finding {
         self.help.hint(texts);
     }
 
-    /// Adds a hint, of these texts and those.
+    /// Adds a hint, of `texts` and `others`.
     pub fn hint_of(&mut self, texts: &[&str], others: &[&str]) {
         self.help.put_text("hint: ");
         self.help.put(texts);
@@ -69,7 +68,7 @@ impl Finding {
         self.help.put_text("\n");
     }
 
-    /// Points at a place, and says what a name is there.
+    /// Points at a place, and says what a name there is.
     pub fn say_what(&mut self, place: Place, name: &str, what: &str, rest: &str) {
         self.place = place;
         self.title.put(&["'", name, "' is "]);
@@ -97,7 +96,7 @@ impl Finding {
         self.help.put(&[" for '", name, "'?\n"]);
     }
 
-    /// Remembers that memory was refused.
+    /// Records that memory ran out.
     pub fn refuse(&mut self) {
         self.help.refuse();
     }

@@ -4,7 +4,7 @@ use tla_hints::{closes_bracket, opens_bracket};
 use tla_lex::{Kind, Place, Token};
 use tla_page::places::word;
 
-/// An index among the tokens of a text.
+/// The tokens of a text, and an index of one.
 #[derive(Clone, Copy)]
 pub struct Spot<'a> {
     pub text: &'a [u8],

@@ -1,4 +1,4 @@
--- The formulas of a model as the code finds them, or why there are none.
+-- The formulas of a model, or why there are none.
 use Rattle.std.proofs.Common.{◌≡◌, refl, ap, sym, ◌∙◌, true, Option, Some, None, arith, subst}
 use Rattle.tla_core.specs.Expr.{Expr}
 use Rattle.tla_tree.specs.declared.word.Written.{Written}
@@ -25,7 +25,7 @@ use Rattle.tla_model.specs.Size.{IsWithinLimits}
 use Rattle.tla_formulas.specs.Refused.{IsCause, IsOfFormula}
 use Rattle.tla_formulas.specs.Formulas.{IsInitial, IsAction, IsStatePredicate, IsAssumption}
 
--- nothing of so many primes is within the limits
+-- nothing with these primes is within the limits
 abbrev pub NoneShown : Primes → Tree → Scope → Type 0
 NoneShown k t σ = (x : Expr) → with_primes k (expand t σ 0) ≡ Some x → IsWithinLimits x → ⊥
 
@@ -51,7 +51,7 @@ module _ (σ : Scope) (tree : Tree) where
   pub no_action : NoneShown Never tree σ → (e : Expr) → IsAction σ tree e → ⊥
   no_action none e h = none e (shown_unprimed (expand tree σ 0) e h.meaning) h.limits
 
--- what is there
+-- what exists
 some_of : {A : Type 0} (o : Option A) → is_some o ≡ true → (x : A) × (o ≡ Some x)
 some_of None h = let no : ⊥ = cc in absurd no
 some_of (Some x) h = (x, refl)
@@ -60,7 +60,7 @@ same_expr : (x y : Expr) → Some x ≡ Some y → x ≡ y
 same_expr x y p = cc
 
 module _ (σ : Scope) (w : Written) where
-  -- a formula of state level is an initial predicate, and as it stands the action of that name
+  -- a formula of state level is an initial predicate, and unprimed the action of that name
   pub found_predicate : (n e : Expr) → IsInitial σ (t.Name w) n → IsAction σ (t.Name w) e → IsStatePredicate σ w e
   found_predicate n e i a =
       let same = same_expr i.before e (sym i.meaning ∙ a.meaning) in
@@ -76,7 +76,7 @@ module _ (σ : Scope) (w : Written) where
   pub not_action : ((x : Expr) → IsAction σ (t.Name w) x → ⊥) → (e : Expr) → IsStatePredicate σ w e → ⊥
   not_action none e h = none e (record { meaning = h.meaning; limits = h.limits })
 
--- what has no expansion as an action has none of state level
+-- a name without an expansion as an action has none of state level
 once_cause : (k : DefsCode) (o : Option Expr) → IsCause k o Never → IsCause k o Once
 once_cause c.Level o h = none_more Never Once o refl h
 once_cause c.ExpansionTooLarge o h = h
@@ -94,7 +94,7 @@ once_cause c.Memory o h = h
 pub once_told : (o : Option Expr) (e : DefsError) → IsOfFormula o Never e → IsOfFormula o Once e
 once_told o e r = record { cause = once_cause e.code o r.cause; source = r.source; place = r.place; name = r.name }
 
--- what has no variable is what it was
+-- an expression without a variable is unchanged
 of_twice : (o : Option Expr) (e : Expr) → with_primes Twice o ≡ Some e → (o ≡ Some e) × (primes Twice e ≡ Some e)
 of_twice None e p = let no : ⊥ = cc in absurd no
 of_twice (Some x) e p = let s = stays x e p Twice in let same : x ≡ e = cc in (ap (λ y. Some y) same, subst (λ y. primes Twice y ≡ Some y) same s)

@@ -11,19 +11,19 @@ use Rattle.tla_expand.specs.Meanings.{Scope}
 use Rattle.tla_expand.specs.Expand.{expand}
 use Rattle.tla_model.specs.Size.{IsWithinLimits}
 
--- what a name of the configuration says, where the names of the module mean this
+-- the formula of a name of the configuration, in this scope of the module
 abbrev pub meaning_in : Scope → Written → Option Expr
 meaning_in σ w = expand (t.Name w) σ 0
 
--- of state level: a prime can be on it, since no variable in it has one
+-- of state level: it can be primed, since no variable in it is primed
 abbrev pub IsStateLevel : Expr → Type 0
 IsStateLevel e = is_some (primes Once e) ≡ true
 
--- of constant level: no variable is in it, so primes don't change it
+-- of constant level: it mentions no variable, so primes don't change it
 abbrev pub IsConstantLevel : Expr → Type 0
 IsConstantLevel e = primes Twice e ≡ Some e
 
--- an initial condition: of state level, and with its variables taken as the variables next
+-- an initial predicate: a formula of state level, primed
 pub record IsInitial (σ : Scope) (t : Tree) (e : Expr) : Type 0 where
   pub before : Expr
   pub meaning : expand t σ 0 ≡ Some before

@@ -1,4 +1,4 @@
--- Why a formula of a model is refused (this project's own choice).
+-- Why a formula of a model is refused. (This project's own choice.)
 use Rattle.std.specs.Prelude.{◌≡◌, true, is_some, Option, Some, None}
 use Rattle.tla_core.specs.Expr.{Expr}
 use Rattle.tla_config.specs.declared.error.DefsCode.{DefsCode}
@@ -9,13 +9,14 @@ use Rattle.tla_expand.specs.declared.primes.Primes.{Primes}
 use Rattle.tla_expand.specs.Primes.{with_primes}
 use Rattle.tla_model.specs.Size.{IsWithinLimits}
 
--- Why a formula is refused that has this expansion and, by its level, is read with these primes: nothing of it is of the level (C5), or it is not within the limits (C11).
+-- Why a formula with this expansion and these primes, by its level, is refused: it isn't of the level (C5), or it isn't
+-- within the limits (C11).
 abbrev pub IsCause : DefsCode → Option Expr → Primes → Type 0
 IsCause c.Level o k = with_primes k o ≡ None
 IsCause c.ExpansionTooLarge o k = (x : Expr) → o ≡ Some x → IsWithinLimits x → ⊥
 IsCause _ o k = ⊥
 
--- what a refusal of such a formula says: some place of the module (which one is not defined here)
+-- the refusal of such a formula; its place, somewhere in the module, is not defined here
 pub record IsOfFormula (o : Option Expr) (k : Primes) (e : DefsError) : Type 0 where
   pub cause : IsCause e.code o k
   pub source : e.source ≡ source.Module

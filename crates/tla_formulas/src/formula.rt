@@ -24,7 +24,7 @@ use tla_expand::{Failure, Primes, Scopes};
 use tla_lex::Place;
 use tla_tree::{Expr, Written};
 
-/// A place of an expression, as a refusal has it.
+/// The place of an expression, converted to that of a refusal.
 fn place_of(place: tla_core::Place) -> Place {
     Place {
         line: place.line,
@@ -32,7 +32,7 @@ fn place_of(place: tla_core::Place) -> Place {
     }
 }
 
-/// A refusal of a formula that begins at this place: its level is too high, or it is too large.
+/// The refusal of a formula that begins at this place: its level is too high, or it is too large.
 pub fn refusal(failure: Failure, begins: Place) -> DefsError
     ensures formula { (o : Option expr.Expr) (k : prime.Primes)
         → ((p : fault.Place) → failure ≡ Failure.NoExpansion p → with_primes k o ≡ None)
@@ -50,7 +50,7 @@ pub fn refusal(failure: Failure, begins: Place) -> DefsError
     }
 }
 
-/// The initial predicate with this name, over the next values of variables.
+/// The initial predicate of this name, with next values for its variables; or why it is refused.
 pub fn initial(
     alloc: Global,
     places: &Places<'_, '_>,
@@ -74,7 +74,7 @@ pub fn initial(
     }
 }
 
-/// The action of this name.
+/// The action of this name; or why it is refused.
 pub fn action(
     alloc: Global,
     places: &Places<'_, '_>,
@@ -98,8 +98,8 @@ pub fn action(
     }
 }
 
-/// The invariant or the constraint with this name. A formula is of state level if it can be read over the next values
-/// of variables.
+/// The invariant or the constraint of this name; or why it is refused. A formula is of state level if its variables can
+/// be primed once.
 pub fn state_predicate(
     alloc: Global,
     places: &Places<'_, '_>,
@@ -123,7 +123,7 @@ pub fn state_predicate(
     action(alloc, places, scopes, name)
 }
 
-/// An assumption. A formula is of constant level if it can be read with two primes.
+/// An assumption; or why it is refused. A formula is of constant level if it can be primed twice.
 pub fn assumption<'a>(alloc: Global, scopes: &Scopes<'a>, tree: &'a Expr) -> Result<Core, DefsError>
     ensures found { IfOk result (λ c.
         formulas.IsAssumption (scope_of scopes.now) (view tree.entry.now) (expr_of c)) }

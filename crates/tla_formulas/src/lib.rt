@@ -1,4 +1,4 @@
-//! The formulas of a model: the definition of each name in a configuration, checked for its level, or why it is
+//! The formulas of a model: the definition of each name in a configuration, checked for its level; or why it is
 //! refused.
 #![tactic(auto)]
 

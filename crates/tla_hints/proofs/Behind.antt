@@ -1,4 +1,4 @@
--- Columns, one byte further.
+-- Columns after one more byte.
 use Rattle.std.proofs.Common.{◌≡◌, ℕ, ◌+◌, ◌-◌, ◌*◌, ◌/◌, ◌<◌, ◌≤◌, ◌≢◌, List, [], ◌∷◌, ◌++◌, take, length, get_or, refl, arith, length-take, true, false}
 use Rattle.std.proofs.lemmas.List.{take_more, take_all}
 use Rattle.tla_lex.specs.Places.{is_inner}
@@ -37,7 +37,7 @@ behind_some xs = some_from 1 xs (omega arith)
 pub behind_bound : (line : List ℕ) (i : ℕ) → column_behind (take i line) ≤ 8 * i + 1
 behind_bound line i = let h = from_bound 1 (take i line) (omega arith) in let m = length-take i line in let g : length (take i line) ≤ i = omega (arith, m) in omega (arith, h, g)
 
--- a tab, a character's first byte, and what belongs to one that has begun
+-- a tab, the first byte of a character, and further bytes of one
 pub behind_tab : (blanks line : List ℕ) (i : ℕ) → i < length line → column_behind blanks ≡ column_behind (take i line) → get_or line i 0 ≡ 9 → column_behind (blanks ++ 9 ∷ []) ≡ column_behind (take (i + 1) line)
 behind_tab blanks line i h e b = rw (column_behind_push blanks 9, column_behind_more line i h, b, e) refl
 

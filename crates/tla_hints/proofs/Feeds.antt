@@ -1,4 +1,4 @@
--- Line feeds, one byte further.
+-- Line feeds before one more byte.
 use Rattle.std.proofs.Common.{◌≡◌, ◌≢◌, ℕ, ◌+◌, ◌-◌, ◌<◌, ◌==◌, List, length, get_or, refl, arith, false}
 use Rattle.std.proofs.lemmas.List.Sums.{count_by_more_yes, count_by_more_no}
 use Rattle.tla_hints.specs.Lines.{feeds_before, is_line_feed}

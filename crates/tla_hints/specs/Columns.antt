@@ -1,8 +1,8 @@
--- Columns of a line (this project's own choice).
+-- Columns of a line. (This project's own choice.)
 use Rattle.std.specs.Prelude.{ℕ, ◌+◌, ◌*◌, ◌-◌, ◌/◌, ◌==◌, if◌then◌else◌, List, [], ◌∷◌}
 use Rattle.tla_lex.specs.Places.{is_inner}
 
--- the column after a byte: a tab leads to the next column of the form 8n + 1, and columns count characters
+-- the column after a byte: columns count characters, and a tab leads to the next column of the form 8n + 1
 abbrev pub column_after : ℕ → ℕ → ℕ
 column_after column b =
     if b == 9 then (column - 1) / 8 * 8 + 9

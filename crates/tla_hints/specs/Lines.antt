@@ -15,6 +15,6 @@ pub record BeginsAt (text : List ℕ) (number at : ℕ) : Type 0 where
   pub first : (at ≡ 0) ⊎ (slice_index text (at - 1) ≡ 10)
   pub counted : feeds_before text at + 1 ≡ number
 
--- what a line has before its line feed
+-- the line from a byte on, up to its line feed
 abbrev pub line_at : List ℕ → ℕ → List ℕ
 line_at text at = take_while (λ b. not (is_line_feed b)) (drop at text)

@@ -1,5 +1,4 @@
--- How near two names are: the least number of characters put in, left out or changed that leads from one to the other
--- (Levenshtein 1966).
+-- The edit distance of two names: the least number of characters to insert, delete or replace (Levenshtein 1966).
 use Rattle.std.specs.Prelude.{ℕ, List, length, nat_eq}
 use Rattle.strsim.specs.Edits.{levenshtein_row}
 use Rattle.std.specs.Str.{chars}

@@ -1,10 +1,10 @@
-//! Brackets and words that are open.
+//! Brackets and words that are still open.
 
 use crate::places::is_before;
 use std::alloc::{AllocError, Global};
 use tla_lex::{Kind, Place, Token};
 
-/// What a token opened, and the text of the token that closes it.
+/// An opening token, and the text of the token that closes it.
 #[derive(Clone, Copy, Debug)]
 pub struct Open {
     pub token: Token,
@@ -32,8 +32,7 @@ pub fn closes_bracket(kind: Kind) -> bool {
     )
 }
 
-/// What a token opens that another has to close: a bracket, an IF, a LET, or names that a colon
-/// follows.
+/// The text that has to close what a token opens: a bracket, an IF, a LET, or names before a colon.
 fn wanted_after(kind: Kind) -> Option<&'static str> {
     match kind {
         Kind::LeftParen => Some(")"),
@@ -47,7 +46,7 @@ fn wanted_after(kind: Kind) -> Option<&'static str> {
     }
 }
 
-/// Whether a token closes what waits for this.
+/// Whether a token closes what waits for the text `wanted`.
 pub fn is_closed_by(wanted: &str, kind: Kind) -> bool {
     match kind {
         Kind::RightParen => wanted == ")",
@@ -62,7 +61,7 @@ pub fn is_closed_by(wanted: &str, kind: Kind) -> bool {
     }
 }
 
-/// Takes one more token. The only error is that memory ran out.
+/// Updates the list of open tokens with the next token. The only error is that memory ran out.
 fn take_up(open: &mut Vec<Open>, token: Token) -> Result<(), AllocError> {
     if let Some(wanted) = wanted_after(token.kind) {
         open.push(Open { token, wanted })?;
@@ -84,8 +83,8 @@ fn take_up(open: &mut Vec<Open>, token: Token) -> Result<(), AllocError> {
     Ok(())
 }
 
-/// The last of the tokens before a place that opens what none of the tokens before that place
-/// closes. The only error is out of memory.
+/// The last token before a place that opens something that no token before the place closes. The only error is that
+/// memory ran out.
 pub fn innermost_open(
     alloc: Global,
     tokens: &[Token],

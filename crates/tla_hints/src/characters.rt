@@ -80,7 +80,7 @@ static MORE_SYMBOLS: [Entry; 25] = [
     ("\u{200b}", "nothing"),
 ];
 
-/// Characters of ASCII that begin no token. The longer of two comes first.
+/// Characters of ASCII that begin no token. A longer entry comes before a shorter one with which it begins.
 static SIGNS: [Entry; 11] = [
     ("//", "a comment begins with \\*"),
     ("/*", "a comment begins with \\*, or is written (* .. *)"),
@@ -98,7 +98,7 @@ static SIGNS: [Entry; 11] = [
     ("_", "a name has a letter, as a_1 has"),
 ];
 
-/// Words of other languages, and operators that are left out.
+/// Words of other languages, and operators that tlacheck doesn't support.
 static WORDS: [Entry; 40] = [
     ("and", "/\\"),
     ("or", "\\/"),
@@ -174,12 +174,12 @@ static LATEX: [Entry; 19] = [
     ),
 ];
 
-/// The characters of Unicode that are known, each with its ASCII form, in two tables.
+/// The known characters of Unicode, each with its ASCII form, in two tables.
 pub fn symbols() -> [&'static [(&'static str, &'static str)]; 2] {
     [&SYMBOLS, &MORE_SYMBOLS]
 }
 
-/// A character of ASCII that begins no token, the first of a text, and what to write in its place.
+/// The entry of `SIGNS` with which a text begins: the characters, and what to write instead.
 pub fn sign_cure(text: &str) -> Option<(&'static str, &'static str)> {
     for entry in &SIGNS {
         if text.starts_with(entry.0) {
@@ -189,12 +189,12 @@ pub fn sign_cure(text: &str) -> Option<(&'static str, &'static str)> {
     None
 }
 
-/// How this language writes a word of another language.
+/// How TLA+ writes a word of another language.
 pub fn word_meant(word: &str) -> Option<&'static str> {
     entry_of(&WORDS, word)
 }
 
-/// How this language writes an operator that LaTeX or another language has, without its backslash.
+/// How TLA+ writes an operator of LaTeX or another language, given without its backslash.
 pub fn command_meant(word: &str) -> Option<&'static str> {
     entry_of(&WORDS, word).or(entry_of(&LATEX, word))
 }

@@ -21,8 +21,8 @@ fn column_after(column: u128, byte: u8) -> u128
 }
 
 #[tactic(auto, using(crate::proofs::Behind::column_behind_more, crate::proofs::Behind::behind_some, crate::proofs::Behind::behind_bound))]
-/// The part of a line before a column: its shortest beginning that reaches that column or a later one, or all of it.
-/// The line has no line feed.
+/// The part of a line before a column: its shortest prefix that reaches that column or a later one, or all of it. The
+/// line has no line feed.
 pub fn front(line: &[u8], column: u128) -> &[u8]
     ensures beginning { result.now ≡ take (length result.now) line.now }
     ensures within { length result.now ≤ length line.now }
@@ -40,7 +40,7 @@ pub fn front(line: &[u8], column: u128) -> &[u8]
 }
 
 #[tactic(auto, using(crate::proofs::Behind::column_behind_more, crate::proofs::Behind::column_behind_push))]
-/// Blanks and tabs that take as many columns as these bytes of a line do. The only error is that memory ran out.
+/// Blanks and tabs as wide as these first bytes of a line. The only error is that memory ran out.
 pub fn blanks(alloc: Global, front: &[u8]) -> Result<Vec<u8>, AllocError>
     ensures column_behind { IfOk result (λ v. column_behind v.items ≡ column_behind front.now) }
     ensures blank { IfOk result (λ v. All (λ b. IsTrue (b == 32 || b == 9)) v.items) }

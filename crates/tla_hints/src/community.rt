@@ -1,4 +1,4 @@
-//! Operators of modules of the community, which aren't read.
+//! Operators of the community modules, which tlacheck doesn't read.
 
 use crate::table::{Entry, entry_of};
 
@@ -183,7 +183,7 @@ static FILES: [&str; 18] = [
     "CSVRead",
 ];
 
-/// What to write in place of an operator of a module of the community.
+/// What to write instead of an operator of a community module.
 pub fn community_cure(name: &str) -> Option<&'static str> {
     if FILES.contains(&name) {
         return Some("leave it out: no file is written or read in a formula");

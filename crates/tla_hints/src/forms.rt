@@ -1,4 +1,4 @@
-//! Forms that are left out of the language.
+//! Forms that tlacheck doesn't support.
 
 use crate::table::{Entry, entry_of};
 
@@ -70,7 +70,7 @@ static PROOFS: [Entry; 13] = [
 const COMMUNITY: &str =
     "remove it: where one of its operators is used, the hint says what to write";
 
-/// Modules of the community that can't be extended.
+/// Community modules, which can't be extended.
 static COMMUNITY_MODULES: [Entry; 8] = [
     ("SequencesExt", COMMUNITY),
     ("FiniteSetsExt", COMMUNITY),
@@ -101,12 +101,12 @@ static MODULES: [Entry; 9] = [
     ("IOUtils", "remove it, and what is used of it"),
 ];
 
-/// What to write in place of a form that is left out, by its first word.
+/// What to write instead of a form that isn't supported, by its first word.
 pub fn form_cure(word: &str) -> Option<&'static str> {
     entry_of(&FORMS, word).or(entry_of(&PROOFS, word))
 }
 
-/// What to write in place of a module that can't be extended.
+/// What to write instead of a module that can't be extended.
 pub fn module_cure(name: &str) -> Option<&'static str> {
     entry_of(&MODULES, name).or(entry_of(&COMMUNITY_MODULES, name))
 }

@@ -3,11 +3,10 @@
 use crate::names::{is_swapped, nearest};
 use std::alloc::{AllocError, Global};
 
-/// The longest name to which a nearest one is looked for.
+/// The longest name for which a nearest one is searched.
 const LONGEST_NAME: usize = 40;
 
-/// The name of a list that differs from this one in few characters. For a name of one letter there
-/// is none.
+/// The name of a list that differs from this one in few characters; none for a name of one letter.
 pub fn meant<'a>(
     alloc: Global,
     name: &str,
@@ -40,8 +39,7 @@ pub fn meant_within<'a>(
     }
 }
 
-/// The name of a list that differs from this one in letters of the other case alone, or in two
-/// neighbours that are turned round.
+/// The name of a list that differs from this one only in the case of letters, or by a swap of two neighbours.
 fn turned<'a>(name: &str, known: &[&'a str]) -> Option<&'a str> {
     for other in known {
         let is_other = *other != name;

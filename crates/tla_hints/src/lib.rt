@@ -1,5 +1,5 @@
-//! Hints for the reader of a refusal: the line of a place with a caret below it, the name that was probably meant, the
-//! module that has an operator, the bracket that is still open, and what to write in place of a form that is left out.
+//! Hints for a refusal: the line of a place with a caret below it, the name that was probably meant, the module that
+//! has an operator, the bracket that is still open, and what to write instead of a form that isn't supported.
 #![tactic(auto)]
 
 mod brackets;

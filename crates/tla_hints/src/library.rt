@@ -1,4 +1,4 @@
-//! Operators of modules that aren't read.
+//! Operators of modules that tlacheck doesn't read.
 
 use crate::community::community_cure;
 use crate::table::{Entry, entry_of};
@@ -162,7 +162,7 @@ static MORE_SEQUENCES: [Entry; 16] = [
 const SUM: &str =
     "a sum counts pairs: Cardinality({<<x, i>> \\in S \\X (1..Most) : i <= f[x]}) is the sum of f over S, where no value is above Most";
 
-/// Of modules that go over the elements of a set.
+/// Of modules that fold over the elements of a set.
 static FOLDS: [Entry; 20] = [
     ("FoldSet", SUM),
     ("FoldFunction", SUM),
@@ -232,7 +232,7 @@ static BAGS: [Entry; 9] = [
     ),
 ];
 
-/// Names without arguments: of modules that aren't read, and sets as other languages call them.
+/// Names without arguments, of modules that aren't read; and names of sets in other languages.
 static PLAIN: [Entry; 12] = [
     ("JavaTime", "leave it out: no value may depend on the time"),
     ("Any", "leave the condition out"),
@@ -251,7 +251,7 @@ static PLAIN: [Entry; 12] = [
     ("String", "write STRING"),
 ];
 
-/// Names for no value.
+/// Names for the absence of a value.
 static NOTHING: [Entry; 7] = [
     (
         "None",
@@ -283,13 +283,12 @@ static NOTHING: [Entry; 7] = [
     ),
 ];
 
-/// What to write in place of a name without arguments, of a module that isn't read or of another
-/// language.
+/// What to write instead of a name without arguments, of a module that isn't read or of another language.
 pub fn plain_cure(name: &str) -> Option<&'static str> {
     entry_of(&PLAIN, name).or(entry_of(&NOTHING, name))
 }
 
-/// What to write in place of an operator with arguments, of a module that isn't read.
+/// What to write instead of an operator with arguments, of a module that isn't read.
 pub fn library_cure(name: &str) -> Option<&'static str> {
     entry_of(&TLC, name)
         .or(entry_of(&SEQUENCES, name))

@@ -3,7 +3,7 @@ ghost use Rattle.std.specs.Prelude.{◌≡◌, ◌≤◌, ◌<◌, ◌+◌, ◌�
 ghost use Rattle.std.specs.List.{prefix_len};
 ghost use Rattle.tla_hints.specs.Lines.{BeginsAt, feeds_before, is_line_feed, line_at};
 
-/// The line of this number, from 1, without its line feed; none where the text has fewer lines.
+/// The line with this number, from 1, without its line feed; none if the text has fewer lines.
 pub fn line_of(text: &[u8], number: u64) -> Option<&[u8]>
     ensures line { IfSome result (λ line.
         (at : ℕ) × BeginsAt text.now number at × (line.now ≡ line_at text.now at)) }
@@ -15,7 +15,7 @@ pub fn line_of(text: &[u8], number: u64) -> Option<&[u8]>
     Some(&rest[..len_of(rest)])
 }
 
-/// Where the line of this number begins.
+/// The byte where the line with this number begins.
 fn start_of(text: &[u8], number: u64) -> Option<usize>
     ensures start { IfSome result (BeginsAt text.now number) }
     ensures none { IfNone result

@@ -15,7 +15,7 @@ static FORMS: [Entry; 9] = [
     ("Assert", "Assert(p, \"text\")"),
 ];
 
-/// The module to extend for an operator, or none where no module has it.
+/// The module to extend for an operator; none if no module has it.
 pub fn module_with(name: &[u8]) -> Option<&'static str> {
     let integers: [&[u8]; 16] = [
         b"+", b"-", b"*", b"\\div", b"%", b"^", b"<", b">", b"<=", b"=<", b"\\leq", b">=",
@@ -39,7 +39,7 @@ pub fn module_with(name: &[u8]) -> Option<&'static str> {
     }
 }
 
-/// How many arguments an operator with a name takes, of the modules that can be extended.
+/// How many arguments an operator of this name takes, in the modules that can be extended.
 pub fn library_arity(name: &str) -> Option<usize> {
     match name.as_bytes() {
         b"Nat" | b"Int" => Some(0),
@@ -50,7 +50,7 @@ pub fn library_arity(name: &str) -> Option<usize> {
     }
 }
 
-/// How an operator with arguments is written, of the modules that can be extended.
+/// How an operator of this name is written with its arguments, in the modules that can be extended.
 pub fn library_form(name: &str) -> Option<&'static str> {
     entry_of(&FORMS, name)
 }

@@ -1,4 +1,4 @@
-//! Names that are near to one another.
+//! Names that are near to each other.
 ghost use Rattle.std.specs.Prelude.{◌≡◌, ◌≤◌, ◌<◌, ℕ, length, List, IfOk, MatchOption, slice_index_or};
 ghost use Rattle.std.specs.Borrow.{Bor};
 ghost use Rattle.tla_hints.specs.Names.{distance};
@@ -6,15 +6,15 @@ ghost use Rattle.tla_hints.specs.Names.{distance};
 use std::alloc::{AllocError, Global};
 use strsim::levenshtein;
 
-/// A name of a list, by its index, and how many edits lead to it.
+/// The index of a name in a list, and its edit distance.
 #[derive(Clone, Copy, Debug, PartialEq, Eq)]
 pub struct Near {
     pub index: usize,
     pub distance: usize,
 }
 
-/// The first of the nearest names of a list, by the number of edits, or None if the list is empty. The only error is
-/// that memory ran out.
+/// The first of the names of a list with the least edit distance, or None if the list is empty. The only error is that
+/// memory ran out.
 pub fn nearest(alloc: Global, name: &str, known: &[&str]) -> Result<Option<Near>, AllocError>
     ensures one { IfOk result (λ o.
         MatchOption o (length known.now ≡ 0) (λ near. near.index < length known.now)) }
@@ -38,7 +38,7 @@ pub fn nearest(alloc: Global, name: &str, known: &[&str]) -> Result<Option<Near>
     Ok(best)
 }
 
-/// Whether two neighbours of a name, in turned order, make the other name of it.
+/// Whether swapping two neighbours in a name makes it the other one.
 pub fn is_swapped(name: &[u8], other: &[u8]) -> bool {
     if name.len() != other.len() {
         return false;

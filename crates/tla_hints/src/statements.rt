@@ -16,7 +16,7 @@ pub const STATEMENTS: [&str; 10] = [
     "CHECK_DEADLOCK",
 ];
 
-/// The words that begin a statement that is left out.
+/// The words that begin a statement that isn't supported.
 pub const LEFT_OUT: [&str; 8] = [
     "PROPERTY",
     "PROPERTIES",
@@ -34,7 +34,7 @@ const PROPERTY: &str =
 const ACTION_CONSTRAINT: &str =
     "make it a conjunct: define Bounded == Next /\\ Limit, and write NEXT Bounded";
 
-/// Statements that are left out, and the `[` of `c <- [M]Op`.
+/// Statements that aren't supported, and the `[` of `c <- [M]Op`.
 static CURES: [Entry; 9] = [
     ("PROPERTY", PROPERTY),
     ("PROPERTIES", PROPERTY),
@@ -53,7 +53,7 @@ static CURES: [Entry; 9] = [
     ("[", "write c <- Op: there is one module"),
 ];
 
-/// What to do about a statement that is left out.
+/// What to do about a statement that isn't supported.
 pub fn statement_cure(word: &str) -> Option<&'static str> {
     entry_of(&CURES, word)
 }

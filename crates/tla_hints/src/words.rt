@@ -1,6 +1,6 @@
 //! The words of a line.
 
-/// The letters, digits and `_` with which bytes begin.
+/// The letters, digits and `_` at the beginning of these bytes.
 pub fn word_of(bytes: &[u8]) -> &[u8] {
     let len = bytes
         .iter()

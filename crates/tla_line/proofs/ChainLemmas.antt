@@ -1,4 +1,4 @@
--- Arguments that are added one after another to a new command: which have a value in every parse.
+-- Arguments that are added in turn to a new command: which have a value in every parse.
 use Rattle.std.proofs.Common.{zero, suc, ◌≡◌, ◌∙◌, ◌++◌, subst, ◌<◌, ap, ap₂, ◌&&◌, ◌||◌, ℕ, Bool, true, false, not, List, [], ◌∷◌, length, map, codes, refl, sym, inl, inr, arith}
 use Rattle.std.specs.Prelude.{⊤}
 use Rattle.std.specs.List.{All, slice_index_or, list_all}
@@ -16,14 +16,14 @@ use Rattle.clap.specs.declared.parser.matches.ArgMatches.{ArgMatches}
 use Rattle.tla_line.specs.Private.Parsing.{AlwaysHasValue, HasValue, IsArgument}
 use Rattle.tla_line.proofs.EntryLemmas.{IsOwn, own_has_value}
 
--- two lists with the same rules, place by place, keep them with one more before them
+-- two lists with the same rules, index by index, still have them with one more in front
 chain_places : (x y : Arg) (xs ys : List Arg) → SameRules x y
     → ((k : ℕ) (e g : Arg) → k < length xs → SameRules (slice_index_or xs k e) (slice_index_or ys k g))
     → (k : ℕ) (e g : Arg) → k < length (x ∷ xs) → SameRules (slice_index_or (x ∷ xs) k e) (slice_index_or (y ∷ ys) k g)
 chain_places x y xs ys r rest zero e g lt = r
 chain_places x y xs ys r rest (suc n) e g lt = rest n e g (omega arith)
 
--- what a chain keeps: the arguments that it adds, place by place, and a command of the same kind
+-- the invariant of a chain: the arguments that it adds, index by index, and a command of the same kind
 chain_facts : (c d : Command) (xs : List Arg) → AddsInTurn AddsArg c xs d → All FitsChain xs → IsPlain c
     → (out-Command c).has_globals ≡ false → (out-Command c).subcommand_negates_reqs ≡ false
     → (ys : List Arg) × (args_of d ≡ args_of c ++ ys) × KeepsList xs ys × IsPlain d
@@ -44,7 +44,7 @@ chain_facts c d (x ∷ xs) h all plain globals negates =
       f.5,
     )
 
--- an argument that always has a value keeps that by its rules
+-- whether an argument always has a value depends only on its rules
 same_value : (a b : Arg) → SameRules a b → AlwaysHasValue a → AlwaysHasValue b
 same_value a b s v = record {
   used = elim v.used [
@@ -91,7 +91,7 @@ value_in_chain start cmd xs k d m chain args groups globals negates all distinct
 
 -- ---- ids, as tests
 
--- the id is none that `clap` gives
+-- the id is none of those that `clap` adds
 abbrev pub is_own_id : Text → Bool
 is_own_id id = not (bytes_eq id []) && (not (bytes_eq id (codes "help")) && not (bytes_eq id (codes "version")))
 
@@ -106,7 +106,7 @@ fits_chain a id same plain local own = (
   ],
 )
 
--- no text stands twice
+-- no text occurs twice
 abbrev pub has_no_repeat : List Text → Bool
 has_no_repeat [] = true
 has_no_repeat (x ∷ xs) = list_all (λ y. not (bytes_eq x y) && not (bytes_eq y x)) xs && has_no_repeat xs

@@ -17,7 +17,7 @@ use Rattle.clap.specs.declared.builder.command.Command.TheViews.{out-Command}
 use Rattle.clap.specs.declared.parser.matches.ArgMatches.{ArgMatches}
 use Rattle.tla_line.specs.Private.Parsing.{AlwaysHasValue, HasValue}
 
--- an id that is there is found
+-- an id that exists is found
 has_entry : (xs : List Entry) (id : List ℕ) → HasIn xs id → is_some (option_map (λ e. e.1) (find (λ e. bytes_eq e.0.now id) xs)) ≡ true
 has_entry [] id h = absurd (omega (arith, h.1))
 has_entry (x ∷ xs) id h = go (bytes_eq x.0.now id) refl h.0 h.1 h.2 (has_entry xs id)
@@ -30,7 +30,7 @@ has_entry (x ∷ xs) id h = go (bytes_eq x.0.now id) refl h.0 h.1 h.2 (has_entry
     go false t zero lt hit rest = let bad : false ≡ true = sym t ∙ hit x in cc
     go false t (suc i) lt hit rest = rw t (rest (i, omega arith, λ d. hit d))
 
--- what such an argument asks of a command: nothing excludes anything, no other argument has its id,
+-- what such an argument requires of a command: nothing excludes anything, no other argument has its id,
 -- and it is none of those that building adds
 pub record IsOwn (old : Command) (k : ℕ) (d : Arg) : Type 0 where
   pub plain : IsPlain old

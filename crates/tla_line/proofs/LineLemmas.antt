@@ -1,4 +1,4 @@
--- What the functions of the command line cite.
+-- Lemmas for the functions of the command line.
 use Rattle.std.proofs.Common.{◌≡◌, ◌∙◌, ap, List, [], refl, true, codes, sym, subst, inl, inr}
 use Rattle.std.specs.Prelude.{None, Some, Result, Ok, Err, IfErr, IsErrAnd}
 use Rattle.clap.specs.Words.{App, HasKind, HasMatchesOf, IsAmong, Text, app_of, fault_of, found_of, is_simple, is_simple_and_free, kind_of, matches_of, rows_of}
@@ -17,7 +17,7 @@ use Rattle.tla_line.specs.declared.line.NoLine.{NoLine}
 use Rattle.tla_line.specs.declared.number.NumberOption.{NumberOption}
 use Rattle.tla_line.specs.declared.number.NumberOption.TheVariants.{Workers, Cut, MaxStates}
 
--- an error of one of the kinds that fit the words gives a fault that fits them
+-- an error of one of the kinds that fit the words becomes a fault that fits them
 pub fault_fits : (words : List Text) (e : Error) → HasKind (faults_of words) e → IsFaultOf words (fault_from e)
 fault_fits words e (inl memory) = rw memory tt
 fault_fits words e (inr among) = go (kind_of e) among
@@ -26,7 +26,7 @@ fault_fits words e (inr among) = go (kind_of e) among
     go OutOfMemory h = tt
     go _ h = h
 
--- an answer that is a fault of which P holds
+-- a result that is a fault with the property P
 pub err_is : {T : Type 0} (P : LineFault → Type 0) (r : Result T LineFault) (f : LineFault) → IsErrAnd r (λ x. x ≡ f) → P f → IfErr r P
 err_is P (Ok x) f h p = tt
 err_is P (Err e) f h p = subst P (sym h) p
@@ -45,7 +45,7 @@ pub is_read : is_simple tlacheck ≡ true
 unfolding clap_on_literals
 is_read = refl
 
--- words that a parse of the command takes have no fault
+-- words that a parse of the command accepts have no fault
 pub none_faulted : (words : List Text) (c : Command) → app_of c ≡ tlacheck
     → (is_simple_and_free (app_of c) ≡ true → fault_of (app_of c) words ≡ []) → faults_of words ≡ []
 none_faulted words c app taken = subst (λ (a : App). fault_of a words ≡ []) app (taken (ap is_simple_and_free app ∙ is_known))
@@ -68,13 +68,13 @@ no_number (Refused e) of is = cc
 no_number Number of is = absurd of
 no_number Memory of is = cc
 
--- words that `clap` refuses name no line
+-- words that `clap` refuses mean no line
 pub refused_words : {T : Type 0} (words : List Text) (r : Result T NoLine) (fault : LineFault)
     → IsErrAnd r (λ n. n ≡ record { fault = fault; bad_number = None }) → IsFaultOf words fault → IsOfClap fault → IfErr r (IsNoLine words)
 refused_words words (Ok x) fault is fits of = tt
 refused_words words (Err n) fault is fits of = subst (IsNoLine words) (sym is) (record { fault = fits; option = no_number fault of })
 
--- words that give an option a bad number name no line
+-- words with a bad number for an option mean no line
 pub bad_words : {T : Type 0} (words : List Text) (r : Result T NoLine) (option : NumberOption)
     → IsErrAnd r (λ n. n ≡ record { fault = Number; bad_number = Some option }) → faults_of words ≡ [] → NamesBadNumber words option
     → IfErr r (IsNoLine words)
@@ -82,7 +82,7 @@ bad_words words (Ok x) option is taken bad = tt
 bad_words words (Err n) option is taken bad =
     subst (IsNoLine words) (sym is) (record { fault = (taken, option, bad); option = (refl, bad) })
 
--- the words name the bad text of the option
+-- the words have the bad text of the option
 pub bad_named : (words : List Text) (option : NumberOption) (workers cut limit : Text) → text_of words (codes "workers") ≡ Some workers
     → text_of words (codes "cut") ≡ Some cut → text_of words (codes "max-states") ≡ Some limit
     → WritesNoCount (most_of option) (text_for option workers cut limit) → NamesBadNumber words option

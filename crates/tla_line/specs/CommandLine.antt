@@ -1,6 +1,5 @@
--- The command line `tlacheck MODULE CONFIG [OPTIONS]`, and what the words of a call name by it. How
--- words match a command is said by the crate `clap` (its `matches_of` and `fault_of`); the command is
--- this project's own choice.
+-- The command line `tlacheck MODULE CONFIG [OPTIONS]`, and what the words of a call mean by it. The crate `clap`
+-- defines how words match a command (`matches_of` and `fault_of`); the command is this project's own choice.
 use Rattle.std.specs.Prelude.{◌≡◌, ◌<◌, ◌^◌, ℕ, Bool, List, [], ◌∷◌, Option, Some, true, false, codes}
 use Rattle.std.specs.Prelude.{IsSomeAnd, option_map}
 use Rattle.std.specs.List.{list_any}
@@ -19,11 +18,11 @@ use Rattle.tla_line.specs.declared.number.NumberOption.TheVariants.{Workers, Cut
 
 -- ---- the command
 
--- a word that has to be there, known by its place
+-- a required positional argument
 abbrev pub required_word : Text → Rule
 required_word name = record (new_rule name) { action = Some Set; required = true }
 
--- `--name N`, which has the text `fallback` where the words don't give it
+-- `--name N`, whose default is `fallback`
 abbrev pub number_option : Text → Text → Rule
 number_option name fallback = record (new_rule name) {
   long = Some name;
@@ -32,7 +31,7 @@ number_option name fallback = record (new_rule name) {
   defaults = fallback ∷ [];
 }
 
--- `--name FILE`, which has no text where the words don't give it
+-- `--name FILE`, without a default
 abbrev pub file_option : Text → Rule
 file_option name = record (new_rule name) {
   long = Some name;
@@ -40,7 +39,7 @@ file_option name = record (new_rule name) {
   value_names = 1;
 }
 
--- `--name`, a word by itself
+-- the flag `--name`
 abbrev pub flag : Text → Rule
 flag name = record (new_rule name) { long = Some name; action = Some SetTrue }
 
@@ -69,18 +68,17 @@ tlacheck = add_rules (with_version (new_app (codes "tlacheck"))) (
     ∷ flag (codes "quiet")
     ∷ [])
 
--- ---- what words name; the first word is the program's name
+-- ---- what words mean; the first word is the program's name
 
--- the faults that `clap` finds in the words first, a call for help among them; none where it takes
--- the words
+-- the faults that `clap` may report for the words, a call for help among them; none if it accepts the words
 abbrev pub faults_of : List Text → Kinds
 faults_of words = fault_of tlacheck words
 
--- the text that the matches of the words give an argument
+-- the value of an argument by the words
 abbrev pub text_of : List Text → Text → Option Text
 text_of words name = first_of name (matches_of tlacheck words)
 
--- the text of a flag by the matches of the words: `true` where the words have it, else `false`
+-- the value of a flag by the words: `true` if the words have it, else `false`
 abbrev pub flag_of : List Text → Text → Option Text
 flag_of words name = one_of name (matches_of tlacheck words)
 
@@ -89,25 +87,25 @@ pub record IsSet (text : Option Text) (set : Bool) : Type 0 where
   pub given : text ≡ Some (codes "true") → set ≡ true
   pub left_out : text ≡ Some (codes "false") → set ≡ false
 
--- the text writes n in decimal digits, a plus before them or not, and n fits 64 bits
+-- the text is n in decimal digits, perhaps after a plus, and n fits 64 bits
 abbrev pub Writes : Text → ℕ → Type 0
 Writes text n = IsNumeral 10 (without_leading_plus text)
     × (digits_value 10 (without_leading_plus text) ≡ n)
     × (n < 2 ^ 64)
 
--- the words name the number n for the option
+-- the value of the option is the number n
 abbrev pub NamesNumber : List Text → Text → ℕ → Type 0
 NamesNumber words option n = IsSomeAnd (text_of words option) (λ text. Writes text n)
 
--- the words name this file for the option, or none
+-- the value of the option is this file, or the option has none
 abbrev pub NamesFile : List Text → Text → Option (Bor Text) → Type 0
 NamesFile words option file = text_of words option ≡ option_map (λ name. name.now) file
 
--- the words set the flag exactly where this is true
+-- the words set the flag exactly if `set` is true
 abbrev pub SetsFlag : List Text → Text → Bool → Type 0
 SetsFlag words name set = IsSet (flag_of words name) set
 
--- the words name each part of the line
+-- the words have each part of the line
 pub record NamesLine (words : List Text) (line : Line) : Type 0 where
   pub module_file : text_of words (codes "MODULE") ≡ Some line.module.now
   pub config_file : text_of words (codes "CONFIG") ≡ Some line.config.now
@@ -123,12 +121,12 @@ pub record NamesLine (words : List Text) (line : Line) : Type 0 where
 
 -- the words mean the line
 pub record MeanLine (words : List Text) (line : Line) : Type 0 where
-  -- `clap` finds no fault in them
+  -- `clap` finds no fault in the words
   pub taken : faults_of words ≡ []
-  -- they name each part of it
+  -- they have each part of the line
   pub names : NamesLine words line
 
--- the text writes no number from 1 to most
+-- the text is no number from 1 to most
 abbrev pub WritesNoCount : ℕ → Text → Type 0
 WritesNoCount most text = (n : ℕ) → Writes text n → IsCount most n → ⊥
 
@@ -144,7 +142,7 @@ most_of Workers = MAX_WORKERS
 most_of Cut = MAX_PIECE
 most_of MaxStates = MAX_STATES
 
--- the words give the option a text that writes no number within its range
+-- the value of the option is no number within its range
 abbrev pub NamesBadNumber : List Text → NumberOption → Type 0
 NamesBadNumber words option = IsSomeAnd (text_of words (name_of option)) (WritesNoCount (most_of option))
 

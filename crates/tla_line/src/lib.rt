@@ -1,4 +1,4 @@
-//! The command line: what the words of a call mean, and the texts if they mean nothing.
+//! The command line: parses the words of a call, and has the texts for words that aren't a valid line.
 #![tactic(auto)]
 
 mod line;

@@ -18,11 +18,11 @@ use std::alloc::{AllocError, Global};
 use std::fmt;
 use tla_options::Options;
 
-/// What `--version` says after the program's name.
+/// The text of `--version` after the program's name.
 const VERSION: &str =
     "0.1.0, proved with rattle-kit-13f when built by rt run; a build by rt try is not proved";
 
-/// What `--help` says last.
+/// The last part of the text of `--help`.
 const STATUSES: &str = "Exit statuses:
    0  No error
   10  An invariant is false
@@ -37,7 +37,7 @@ const STATUSES: &str = "Exit statuses:
 Example:
   tlacheck Jugs.tla Jugs.cfg --workers 4";
 
-/// What the words of a call name.
+/// A parsed command line.
 #[derive(Clone, Copy, Debug, PartialEq, Eq)]
 pub struct Line<'a> {
     /// The path of the module's file.
@@ -45,31 +45,31 @@ pub struct Line<'a> {
     /// The path of the configuration's file.
     pub config: &'a str,
     pub options: Options,
-    /// Whether standard error gets nothing but what keeps a report from being made.
+    /// Whether only what prevents a report goes to standard error.
     pub quiet: bool,
     /// Whether the explanation shows values whole.
     pub full: bool,
     /// Whether the explanation counts the steps of each part of the next-state action.
     pub coverage: bool,
-    /// The file that gets report and explanation as a JSON document.
+    /// The file for the report and the explanation as a JSON document.
     pub json: Option<&'a str>,
-    /// The file that gets the states that were seen as a graph.
+    /// The file for the graph of the states that the search found.
     pub dot: Option<&'a str>,
 }
 
-/// Why the words of a call are no command line. Its `Display` is the text for the user, with its line feeds.
+/// Why the words of a call are no valid command line. Its `Display` is the text for the user, with its line feeds.
 #[derive(Debug, Drop)]
 pub enum LineFault {
     /// `clap` refuses the words, or they ask for help or for the version.
     Refused(clap::Error),
-    /// The text of `--workers`, `--cut` or `--max-states` is no number, or one outside its limits.
+    /// The value of `--workers`, `--cut` or `--max-states` is no number, or one out of range.
     Number,
-    /// Memory ran out, in `clap` too.
+    /// Memory ran out, here or in `clap`.
     Memory,
 }
 
 impl LineFault {
-    /// The text for the user, where it isn't one of `clap`.
+    /// The text for the user, unless it is one of `clap`.
     pub fn own_text(&self) -> Option<&'static str>
         ensures { option_map (λ text. text.now) result ≡ text_of_fault self.now }
     {
@@ -80,7 +80,7 @@ impl LineFault {
         }
     }
 
-    /// Whether the words ask for help or for the version, so that the text is no complaint.
+    /// Whether the words ask for help or for the version, which is no error.
     pub fn is_help(&self) -> bool
         ensures { IsTrue result ↔ IsHelp self.now }
     {
@@ -126,7 +126,7 @@ impl From<AllocError> for LineFault {
     }
 }
 
-/// Why the words of a call are no command line, with the option of a bad number.
+/// Why the words of a call are no valid command line, with the option of a bad number.
 #[derive(Debug, Drop)]
 pub struct NoLine {
     pub fault: LineFault,
@@ -134,7 +134,7 @@ pub struct NoLine {
 }
 
 impl NoLine {
-    /// What helps with it: the option of a bad number and its range.
+    /// A hint: the option of a bad number and its range; empty for another fault.
     pub fn help(&self) -> &'static str
         ensures { result.now ≡ help_of self.now }
     {
@@ -169,16 +169,16 @@ impl From<NumberOption> for NoLine {
     }
 }
 
-/// Whether `--quiet` is one of the words. It reads words that `clap` refuses, too.
+/// Whether `--quiet` is one of the words, also if `clap` refuses them.
 pub fn is_quiet(words: &[&str]) -> bool
     ensures { result ≡ is_quiet (texts words.now) }
 {
     words.contains(&"--quiet")
 }
 
-/// What `words`, the program's name first, name by `tlacheck MODULE CONFIG [OPTIONS]`, as `clap`
-/// reads them. The numbers are 1, 1024 and 16,777,216 where the words don't give them. What was
-/// found is explained unless the line is quiet, so `--explain` changes nothing.
+/// Parses the words of a call, the program's name first, as `tlacheck MODULE CONFIG [OPTIONS]`, by `clap`. The defaults
+/// are 1 worker, pieces of 1024 states, and a limit of 16,777,216 states. `--explain` has no effect: every line that
+/// isn't quiet gets an explanation.
 pub fn read_line<'a>(alloc: Global, words: &'a [&'a str]) -> Result<Line<'a>, LineFault>
     ensures line { IfOk result (MeanLine (texts words.entry.now)) }
     ensures fault { IfErr result (IsFaultOf (texts words.entry.now)) }
@@ -189,7 +189,7 @@ pub fn read_line<'a>(alloc: Global, words: &'a [&'a str]) -> Result<Line<'a>, Li
     }
 }
 
-/// As `read_line`, with the option of a bad number.
+/// The same as `read_line`, but an error has the option of a bad number.
 pub fn read_words<'a>(alloc: Global, words: &'a [&'a str]) -> Result<Line<'a>, NoLine>
     ensures line { IfOk result (MeanLine (texts words.entry.now)) }
     ensures fault { IfErr result (IsNoLine (texts words.entry.now)) }
@@ -212,14 +212,14 @@ pub fn read_words<'a>(alloc: Global, words: &'a [&'a str]) -> Result<Line<'a>, N
     })
 }
 
-/// Whether the matches set the flag of this name.
+/// Whether the flag of this name is set.
 fn is_set(matches: &ArgMatches<'_>, name: &str) -> bool
     ensures { IsSet (one_of name.now (rows_of (found_of matches.now))) result }
 {
     matches.get_flag(name)
 }
 
-/// The text that the matches give the argument of this name.
+/// The value of the argument of this name.
 fn text<'a>(matches: &ArgMatches<'a>, name: &str) -> &'a str
     requires { HasValue matches.now name.now }
     ensures { first_of name.now (rows_of (found_of matches.now)) ≡ Some result.now }
@@ -227,14 +227,14 @@ fn text<'a>(matches: &ArgMatches<'a>, name: &str) -> &'a str
     matches.get_str(name).unwrap()
 }
 
-/// The file that the matches name for the option of this name.
+/// The file of the option of this name, if it has one.
 fn file<'a>(matches: &ArgMatches<'a>, name: &str) -> Option<&'a str>
     ensures { first_of name.now (rows_of (found_of matches.now)) ≡ option_map (λ s. s.now) result }
 {
     matches.get_str(name)
 }
 
-/// The options of three texts, or the first that isn't given a number within its range.
+/// The options of three texts, or the first option whose text is no number within its range.
 fn read_options(workers: &str, cut: &str, limit: &str) -> Result<Options, NumberOption>
     ensures within { IfOk result IsWithinLimits }
     ensures workers { IfOk result (λ o. Writes workers.now o.workers) }
@@ -265,7 +265,7 @@ fn parse<'a>(alloc: Global, words: &'a [&'a str]) -> Result<ArgMatches<'a>, Line
     Ok(command.try_get_matches_from(words)?)
 }
 
-/// The command as `clap` has it.
+/// The command for `clap`.
 fn command<'a>(alloc: Global) -> Result<Command<'a>, AllocError>
     ensures app { IfOk result (λ c. app_of c ≡ tlacheck) }
     ensures values { IfOk result GivesEach }
@@ -318,7 +318,7 @@ fn command<'a>(alloc: Global) -> Result<Command<'a>, AllocError>
         ))
 }
 
-/// An argument that has to be there, known by its place.
+/// A required positional argument.
 fn required_word<'a>(alloc: Global, name: &'a str, help: &'a str) -> Arg<'a>
     ensures rule { rule_of result ≡ required_word name.entry.now }
     ensures argument { IsArgument name.entry.now result }

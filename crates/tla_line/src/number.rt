@@ -22,7 +22,7 @@ impl NumberOption {
         NumberOption::MaxStates,
     ];
 
-    /// The line that helps with a bad number: the option and its range.
+    /// The hint for a bad number: the option and its range.
     pub fn hint(self) -> &'static str
         ensures { result.now ≡ hint_of self }
     {
@@ -33,8 +33,7 @@ impl NumberOption {
         }
     }
 
-    /// Whether the words give the option a text that is no number within its range. It reads words
-    /// that `clap` refuses, too.
+    /// Whether the option has a text in the words that is no number within its range, also if `clap` refuses the words.
     pub fn is_bad_in(self, words: &[&str]) -> bool {
         match self.text_in(words) {
             Some(text) => self.number(text).is_err(),
@@ -42,7 +41,7 @@ impl NumberOption {
         }
     }
 
-    /// The number that the text writes, if it is within the option's range.
+    /// The number that a text denotes, if it is within the option's range.
     pub(crate) fn number(self, text: &str) -> Result<u64, NumberOption>
         ensures writes { IfOk result (Writes text.now) }
         ensures within { IfOk result (IsCount (most_of self)) }
@@ -68,7 +67,7 @@ impl NumberOption {
         }
     }
 
-    /// The text that the words give the option, where it has one.
+    /// The text of the option in the words, if it has one.
     fn text_in<'a>(self, words: &[&'a str]) -> Option<&'a str> {
         let mut is_next = false;
         for &word in words {
@@ -94,7 +93,7 @@ impl NumberOption {
     }
 }
 
-/// The number that the text writes.
+/// The number that a text denotes.
 fn written(text: &str) -> Option<u64>
     ensures some { IfSome result (Writes text.now) }
     ensures none { IfNone result (WritesNoNumber text.now) }

@@ -1,4 +1,4 @@
--- What evaluating and reading a model ask of it (this project's own choice).
+-- What evaluating and reading a model requires. (This project's own choice.)
 use Rattle.std.specs.Prelude.{◌≤◌, ℕ, Bool, true, false, IsTrue, List, [], ◌∷◌, length, map, ⊤}
 use Rattle.std.proofs.Props.{props}
 use Rattle.tla_core.specs.Expr.{Expr}
@@ -7,8 +7,8 @@ use Rattle.tla_model.specs.ModelTree.{ModelTree}
 use Rattle.tla_model.specs.Size.{depth}
 use Rattle.tla_model.specs.declared.limits.TheConstants.{MAX_PATH}
 
--- Over this many variables, the names of the expression exist, it has a present value only if there is a present state,
--- and at most MAX_PATH nodes are on a path.
+-- Over this many variables, the names of the expression exist; it mentions present values only if there is a present
+-- state; and a path has at most MAX_PATH nodes.
 pub record IsUsable (variables : ℕ) (present : Bool) (e : Expr) : Type 0 where
   pub named : IsTrue (fits e 0 variables present)
   pub shallow : depth e ≤ MAX_PATH
@@ -21,7 +21,7 @@ AreUsable variables present (e ∷ es) = IsUsable variables present e × AreUsab
 abbrev pub bodies : List (List ℕ × Expr) → List Expr
 bodies is = map (λ (i : List ℕ × Expr). i.1) is
 
--- assumptions name no variable, and the initial predicate no present value
+-- assumptions mention no variable, and the initial predicate no present value
 pub record IsSound (m : ModelTree) : Type 0 where
   pub assumptions : AreUsable 0 false m.assumptions
   pub init : IsUsable (length m.variables) false m.init
@@ -29,7 +29,7 @@ pub record IsSound (m : ModelTree) : Type 0 where
   pub invariants : AreUsable (length m.variables) true (bodies m.invariants)
   pub constraints : AreUsable (length m.variables) true (bodies m.constraints)
 
--- there is one proof of it at most
+-- it has at most one proof
 pub IsUsable-prop : (variables : ℕ) (present : Bool) (e : Expr) → IsProp (IsUsable variables present e)
 IsUsable-prop variables present e = hlevel props
 

@@ -1,4 +1,4 @@
--- The mathematical value of a model in memory.
+-- The mathematical value of a model.
 use Rattle.std.specs.Prelude.{ℕ, Bool, List, map}
 use Rattle.tla_core.specs.Expr.{Expr}
 use Rattle.tla_core.specs.ExprOf.{expr_of}

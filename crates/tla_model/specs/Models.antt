@@ -1,13 +1,13 @@
--- A model, as contracts see it.
+-- A model in contracts.
 use Rattle.tla_model.specs.ModelTree.{ModelTree}
 use Rattle.tla_model.specs.ModelOf.{tree_of_parts}
 use Rattle.tla_model.specs.IsSound.{IsSound}
 use Rattle.tla_model.specs.declared.model.Model.{Model}
 
--- the mathematical value of a model in memory
+-- the mathematical value of a model
 abbrev pub model_of : Model → ModelTree
 model_of m = tree_of_parts m.variables.items m.assumptions.items m.init.value m.next.value m.invariants.items m.constraints.items m.check_deadlock
 
--- every model in memory is sound
+-- every value of the type Model is sound
 pub model_is_sound : (m : Model) → IsSound (model_of m)
 model_is_sound m = m.sound

@@ -1,7 +1,7 @@
-//! How large the expressions of a model may be.
+//! The limits of the expressions of a model.
 
 /// The most nodes of an expression.
 pub const MAX_NODES: usize = 200_000;
 
-/// The most nodes on a path of an expression.
+/// The most nodes on a path from the root of an expression.
 pub const MAX_PATH: usize = 300;

@@ -8,7 +8,7 @@ use crate::state_predicate::StatePredicate;
 use tla_core::Core;
 use tla_value::Text;
 
-/// A model of which every expression can be evaluated: its names and variables exist, and a path has at most 300 nodes.
+/// A model. Every expression can be evaluated: its names and variables exist, and a path has at most 300 nodes.
 #[derive(Drop)]
 pub struct Model {
     variables: Vec<Text>,
@@ -24,7 +24,7 @@ pub struct Model {
 impl Model {
     ghost use Rattle.tla_model.specs.Models.{model_of};
 
-    /// A model of these parts. Takes no memory. The initial predicate is written over the variables next.
+    /// A model of these parts. Allocates nothing. The variables of the initial predicate are next values.
     pub fn new(
         variables: Vec<Text>,
         assumptions: Vec<Core>,
@@ -66,7 +66,7 @@ impl Model {
         self.assumptions.as_slice()
     }
 
-    /// The initial predicate, over the variables next.
+    /// The initial predicate. Its variables are next values.
     pub fn init(&self) -> &Core
         ensures { expr_of result.now ≡ (model_of self.now).init }
     {
@@ -87,14 +87,14 @@ impl Model {
         self.invariants.as_slice()
     }
 
-    /// The constraints, in the order of the configuration: steps are taken from the states at which each is TRUE.
+    /// The constraints, in the order of the configuration. Only states at which each is TRUE have successors.
     pub fn constraints(&self) -> &[StatePredicate]
         ensures { map predicate_of result.now ≡ (model_of self.now).constraints }
     {
         self.constraints.as_slice()
     }
 
-    /// Whether a state from which no step goes is an error.
+    /// Whether a state without a successor is an error.
     pub fn check_deadlock(&self) -> bool
         ensures { result ≡ (model_of self.now).check_deadlock }
     {

@@ -3,7 +3,7 @@
 use tla_core::Core;
 use tla_value::Text;
 
-/// What is asked of a state, by its name: an invariant or a constraint.
+/// An invariant or a constraint, with its name.
 #[derive(Drop)]
 pub struct StatePredicate {
     pub name: Text,

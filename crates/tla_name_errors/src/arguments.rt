@@ -7,7 +7,7 @@ use tla_lex::Kind;
 use tla_page::output::Output;
 use tla_page::units::{Known, Role, known_name};
 
-/// Finds what a name takes that has the wrong number of arguments in a module.
+/// Finds how many arguments a name takes that has the wrong number of them in a module.
 pub fn find(finding: &mut Finding, spot: &Spot<'_>, known: &[Known<'_>]) {
     let name = spot.word(spot.at);
     let place = spot.place(spot.at);
@@ -26,8 +26,7 @@ pub fn find(finding: &mut Finding, spot: &Spot<'_>, known: &[Known<'_>]) {
     finding.show_name(one.place, name, one.role.brought_in(), " here");
 }
 
-/// Finds what a name takes that no unit brings in: an operator of a module, or of LET, or a name
-/// that is bound.
+/// The same for a name that no unit introduces: an operator of a module or of LET, or a bound name.
 fn find_other(finding: &mut Finding, spot: &Spot<'_>, given: usize) {
     let name = spot.word(spot.at);
     if let Some(arity) = library_arity(name) {
@@ -93,7 +92,7 @@ fn put_count(title: &mut Output, name: &str, arity: usize, given: usize) {
     title.put_text(" here");
 }
 
-/// Adds `1 argument`, or how many there are.
+/// Adds `1 argument`, `2 arguments` and so on.
 pub(crate) fn put_arguments(output: &mut Output, count: usize) {
     output.put_number(count as u128);
     output.put_text(if count == 1 {

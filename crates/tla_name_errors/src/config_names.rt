@@ -1,4 +1,4 @@
-//! Names of a configuration that are refused.
+//! Wrong names in a configuration.
 
 use crate::arguments::put_arguments;
 use crate::configuration::find_misspelt;
@@ -34,8 +34,8 @@ pub fn find_unknown(finding: &mut Finding, spot: &Spot<'_>, known: &[Known<'_>])
     }
 }
 
-/// Says that a statement names an operator of a library module, or which module has to be extended
-/// for the name of an item.
+/// Says that a statement names an operator of a library module, or which module has to be extended for the name of an
+/// item.
 fn say_library(finding: &mut Finding, spot: &Spot<'_>, module: &str) {
     let name = spot.word(spot.at);
     if is_item(spot) || is_meaning(spot) {
@@ -47,7 +47,7 @@ fn say_library(finding: &mut Finding, spot: &Spot<'_>, module: &str) {
     hint_definition(finding, spot);
 }
 
-/// Hints at a definition, to be named where another name is.
+/// Hints at a definition to name instead.
 fn hint_definition(finding: &mut Finding, spot: &Spot<'_>) {
     let before = if is_meaning(spot) {
         "<-"
@@ -60,7 +60,7 @@ fn hint_definition(finding: &mut Finding, spot: &Spot<'_>) {
     ]);
 }
 
-/// Says that a name is of no use at its place, by its role.
+/// Says that a name can't be used at its place, by its role.
 fn say_role(finding: &mut Finding, spot: &Spot<'_>, one: &Known<'_>) {
     let place = spot.place(spot.at);
     if is_item(spot) {
@@ -91,7 +91,7 @@ fn names_of<'a>(
     Ok(names)
 }
 
-/// The word of the statement in which a token is.
+/// The keyword of the statement that contains a token.
 pub(crate) fn statement_before<'a>(spot: &Spot<'a>) -> &'a str {
     let word = spot.word(statement_index(spot));
     if STATEMENTS.contains(&word) {
@@ -101,7 +101,7 @@ pub(crate) fn statement_before<'a>(spot: &Spot<'a>) -> &'a str {
     }
 }
 
-/// The number of the word of the statement in which a token is, or of the first token.
+/// The index of the keyword of the statement that contains a token, or that of the first token.
 pub(crate) fn statement_index(spot: &Spot<'_>) -> usize {
     for count in 0..spot.tokens.len() {
         let Some(index) = spot.at.checked_sub(count) else {
@@ -114,7 +114,7 @@ pub(crate) fn statement_index(spot: &Spot<'_>) -> usize {
     0
 }
 
-/// Whether a token is the name of an item of CONSTANT, before its sign.
+/// Whether a token is the name of an item of CONSTANT, before `=` or `<-`.
 fn is_item(spot: &Spot<'_>) -> bool {
     matches!(spot.ahead(1), Some(Kind::Equal | Kind::Substitute))
 }
@@ -124,7 +124,7 @@ fn is_meaning(spot: &Spot<'_>) -> bool {
     spot.back(1) == Some(Kind::Substitute)
 }
 
-/// Adds the nearest name that the module has, or what it lacks.
+/// Adds the nearest name of the module, or what is missing in the module.
 fn hint_near(finding: &mut Finding, spot: &Spot<'_>, known: &[Known<'_>]) {
     let name = spot.word(spot.at);
     let alloc = finding.alloc();
@@ -150,7 +150,7 @@ fn hint_near(finding: &mut Finding, spot: &Spot<'_>, known: &[Known<'_>]) {
     }
 }
 
-/// Finds what takes arguments that a statement names.
+/// Finds the operator with arguments that a statement names.
 pub fn find_arguments(finding: &mut Finding, spot: &Spot<'_>, known: &[Known<'_>]) {
     let name = spot.word(spot.at);
     let Some(one) = known_name(known, name) else {
@@ -176,7 +176,7 @@ pub fn find_arguments(finding: &mut Finding, spot: &Spot<'_>, known: &[Known<'_>
     finding.show_name(one.place, name, one.role.brought_in(), " here");
 }
 
-/// Adds how many arguments the operator takes that an item puts in place of a name.
+/// Adds how many arguments the operator takes by which an item replaces a name.
 fn put_other(title: &mut Output, spot: &Spot<'_>, known: &[Known<'_>]) {
     let other = spot.word(spot.at.saturating_add(2));
     if spot.ahead(1) == Some(Kind::Substitute)
@@ -187,7 +187,7 @@ fn put_other(title: &mut Output, spot: &Spot<'_>, known: &[Known<'_>]) {
     }
 }
 
-/// Finds which statement of the behaviour is missing, or one too many.
+/// Finds which statement of the behaviour is missing or superfluous.
 pub fn find_behaviour(finding: &mut Finding, spot: Option<&Spot<'_>>, tokens: &Spot<'_>) {
     if let Some(spot) = spot {
         return say_second(finding, spot);
@@ -205,7 +205,7 @@ pub fn find_behaviour(finding: &mut Finding, spot: Option<&Spot<'_>>, tokens: &S
     ]);
 }
 
-/// Says that a statement of the behaviour is one too many.
+/// Says that a statement of the behaviour is superfluous.
 fn say_second(finding: &mut Finding, spot: &Spot<'_>) {
     let word = spot.word(spot.at);
     let before = Spot {
@@ -221,7 +221,7 @@ fn say_second(finding: &mut Finding, spot: &Spot<'_>) {
     }
 }
 
-/// Finds the definition by which an item leads back to its own name.
+/// Finds the definition through which an item leads back to its own name.
 pub fn find_circle(finding: &mut Finding, spot: &Spot<'_>, known: &[Known<'_>]) {
     let name = spot.word(spot.at);
     let other = spot.word(spot.at.saturating_add(2));
@@ -241,7 +241,7 @@ pub fn find_circle(finding: &mut Finding, spot: &Spot<'_>, known: &[Known<'_>]) 
     }
 }
 
-/// Says that a value is beyond the limits.
+/// Says that a value exceeds the limits.
 pub fn find_large(finding: &mut Finding, spot: &Spot<'_>) {
     let name = spot.word(spot.at);
     finding.say(

@@ -1,4 +1,4 @@
-//! Refusals of a configuration's text.
+//! Syntax errors of a configuration.
 
 use crate::config_names::{has_word, statement_before, statement_index};
 use crate::items;
@@ -9,7 +9,7 @@ use tla_finding::spot::Spot;
 use tla_hints::{LEFT_OUT, STATEMENTS, meant_within, statement_cure};
 use tla_lex::{Kind, Place};
 
-/// How many edits may lead from a word in capital letters that begins a line to a statement.
+/// The greatest edit distance from a statement of a word in capital letters that begins a line.
 const MOST_EDITS: usize = 2;
 
 /// The statements that name formulas.
@@ -23,10 +23,10 @@ const FORMULAS: [&str; 7] = [
     "CONSTRAINTS",
 ];
 
-/// The shortest word to which a nearest statement is looked for.
+/// The shortest word for which a nearest statement is searched.
 const SHORTEST_WORD: usize = 3;
 
-/// Finds what can't be there in the text of a configuration. `names` are those of the module.
+/// Finds why a token of a configuration is unexpected. `names` are those of the module.
 pub fn find(finding: &mut Finding, spot: &Spot<'_>, names: &[&str]) {
     let is_found = find_unfinished(finding, spot)
         || find_misspelt(finding, spot, names)
@@ -57,7 +57,7 @@ pub fn find(finding: &mut Finding, spot: &Spot<'_>, names: &[&str]) {
     }
 }
 
-/// Finds a sign between the word of a statement and its names.
+/// Finds a symbol between the keyword of a statement and its names.
 fn find_sign(finding: &mut Finding, spot: &Spot<'_>) -> bool {
     let before = spot.word(spot.at.saturating_sub(1));
     let is_sign = matches!(
@@ -77,7 +77,7 @@ fn find_sign(finding: &mut Finding, spot: &Spot<'_>) -> bool {
     true
 }
 
-/// Finds a formula, or a second name, where a statement takes the name of a definition.
+/// Finds a formula, or a second name, in a statement that takes one name of a definition.
 fn find_formula(finding: &mut Finding, spot: &Spot<'_>) -> bool {
     let Some(word) = formula_word(spot) else {
         return false;
@@ -122,7 +122,7 @@ fn say_formula(finding: &mut Finding, word: &str, name: &str, formula: &str) {
     finding.hint_of(&define, &[word, " ", name, " here"]);
 }
 
-/// Finds what the item lacks before a statement: a bracket that closes it, or its value.
+/// Finds what is missing in the item before a statement: a closing bracket, or its value.
 fn find_unfinished(finding: &mut Finding, spot: &Spot<'_>) -> bool {
     if !is_statement(spot.word(spot.at)) {
         return false;
@@ -139,7 +139,7 @@ fn find_unfinished(finding: &mut Finding, spot: &Spot<'_>) -> bool {
     items::find_open(finding, spot, spot.place(spot.at))
 }
 
-/// The word of the statement that takes a formula, if a name is before the token in its line.
+/// The keyword of the statement that takes a formula, if a name is before the token in its line.
 fn formula_word<'a>(spot: &Spot<'a>) -> Option<&'a str> {
     let word = statement_before(spot);
     let is_formula = FORMULAS.contains(&word);
@@ -148,7 +148,7 @@ fn formula_word<'a>(spot: &Spot<'a>) -> Option<&'a str> {
     (is_formula && goes_on).then_some(word)
 }
 
-/// Finds a comment as other languages write it, or a module in place of a configuration.
+/// Finds a comment of another language, or a module instead of a configuration.
 fn find_comment(finding: &mut Finding, spot: &Spot<'_>) -> bool {
     let place = spot.place(spot.at);
     let word = spot.word(spot.at);
@@ -192,12 +192,12 @@ pub fn find_end(finding: &mut Finding, spot: &Spot<'_>, place: Place, names: &[&
     }
 }
 
-/// Whether a word begins a statement that is read.
+/// Whether a word begins a supported statement.
 fn is_statement(word: &str) -> bool {
     STATEMENTS.contains(&word)
 }
 
-/// Finds the misspelt word of a statement at a token, or among the names before it.
+/// Finds the misspelt keyword of a statement at a token, or among the names before it.
 pub(crate) fn find_misspelt(finding: &mut Finding, spot: &Spot<'_>, names: &[&str]) -> bool {
     for count in 0..spot.tokens.len() {
         let Some(index) = spot.at.checked_sub(count) else {
@@ -221,7 +221,7 @@ pub(crate) fn find_misspelt(finding: &mut Finding, spot: &Spot<'_>, names: &[&st
     false
 }
 
-/// Whether a token is the first name after the word of a statement.
+/// Whether a token is the first name after the keyword of a statement.
 fn is_first_name(spot: &Spot<'_>, index: usize) -> bool {
     match index.checked_sub(1) {
         Some(before) => is_statement(spot.word(before)),
@@ -229,13 +229,13 @@ fn is_first_name(spot: &Spot<'_>, index: usize) -> bool {
     }
 }
 
-/// Whether a word has no small letter.
+/// Whether a word has no lower-case letter.
 fn is_upper(word: &str) -> bool {
     !word.as_bytes().iter().any(|b| b.is_ascii_lowercase())
 }
 
-/// The places of misspelt words of statements: each begins a line, and a name follows it. The only
-/// error is out of memory.
+/// The places of misspelt keywords of statements: each begins a line, and a name follows it. The only error is that
+/// memory ran out.
 pub fn misspelt_places(
     alloc: Global,
     spot: &Spot<'_>,
@@ -283,7 +283,7 @@ fn say_misspelt(finding: &mut Finding, spot: &Spot<'_>, index: usize, most: usiz
     }
 }
 
-/// Hints what to do about a statement that is left out.
+/// Hints what to do about a statement that isn't supported.
 pub fn hint_left_out(finding: &mut Finding, spot: &Spot<'_>, word: &str) {
     if word.starts_with("ACTION_CONSTRAINT") && has_word(spot, "SPECIFICATION") {
         finding.hint(&[
@@ -294,8 +294,8 @@ pub fn hint_left_out(finding: &mut Finding, spot: &Spot<'_>, word: &str) {
     }
 }
 
-/// The statement that is near to a word, in letters of either case. Up to `most` edits are allowed,
-/// and more for a long word. The only error is out of memory.
+/// The statement that is near to a word, ignoring case, with at most `most` edits, or more for a long word. The only
+/// error is that memory ran out.
 fn statement_near(
     alloc: Global,
     word: &str,

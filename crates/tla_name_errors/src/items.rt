@@ -1,4 +1,4 @@
-//! Items of CONSTANT that can't be read.
+//! Syntax errors in items of CONSTANT.
 
 use crate::config_names::statement_before;
 use tla_config::Source;
@@ -8,7 +8,7 @@ use tla_hints::{closes_bracket, innermost_open, opens_bracket};
 use tla_lex::{Kind, Place, Token};
 use tla_page::places::word;
 
-/// Finds what to write for an item of CONSTANT that can't be read.
+/// Finds what to write for an item of CONSTANT with a syntax error.
 pub(crate) fn find(finding: &mut Finding, spot: &Spot<'_>) -> bool {
     if !is_in_constants(spot) {
         return false;
@@ -20,7 +20,7 @@ pub(crate) fn find(finding: &mut Finding, spot: &Spot<'_>) -> bool {
         || find_value(finding, spot)
 }
 
-/// Finds what an item lacks with which a configuration ends. The token is the last one.
+/// Finds what is missing in the item at the end of a configuration. The token is the last one.
 pub(crate) fn find_end(finding: &mut Finding, last: &Spot<'_>, place: Place) -> bool {
     if !is_in_constants(last) {
         return false;
@@ -99,7 +99,7 @@ fn find_parameters(finding: &mut Finding, spot: &Spot<'_>) -> bool {
     true
 }
 
-/// Finds a name without a sign after it.
+/// Finds a name without `=` or `<-` after it.
 fn find_bare(finding: &mut Finding, spot: &Spot<'_>) -> bool {
     let Some(before) = spot.at.checked_sub(1) else {
         return false;
@@ -113,8 +113,7 @@ fn find_bare(finding: &mut Finding, spot: &Spot<'_>) -> bool {
     is_bare
 }
 
-/// Whether a name begins an item: a comma or the statement's word is before it, or it begins its
-/// line.
+/// Whether a name begins an item: a comma or the keyword is before it, or it begins its line.
 fn is_bare_name(spot: &Spot<'_>, index: usize) -> bool {
     let Some(before) = index.checked_sub(1) else {
         return false;
@@ -135,7 +134,7 @@ fn say_bare(finding: &mut Finding, place: Place, name: &str) {
     ]);
 }
 
-/// Finds what to write for a value that is an expression, or that has another sign than `=`.
+/// Finds what to write for a value that is an expression, or that follows another symbol than `=`.
 fn find_value(finding: &mut Finding, spot: &Spot<'_>) -> bool {
     let Some(sign) = sign_before(spot) else {
         return false;
@@ -172,7 +171,7 @@ fn say_expression(finding: &mut Finding, spot: &Spot<'_>, name: &str, value: &st
     finding.hint_of(&define, &[name, " <- ", name, "Value here"]);
 }
 
-/// Whether a token is a sign of an item: `=`, `==`, `<-`, or the `:` of `:=`.
+/// Whether a token is between the name and the value of an item: `=`, `==`, `<-`, or the `:` of `:=`.
 fn is_sign(spot: &Spot<'_>, index: usize) -> bool {
     matches!(
         spot.kind(index),
@@ -180,8 +179,8 @@ fn is_sign(spot: &Spot<'_>, index: usize) -> bool {
     )
 }
 
-/// The sign between the name and the value of the item in which a token is, in the line of the
-/// token, or where the value begins in that line.
+/// The index of the symbol between the name and the value of the item that contains a token: in the line of the token,
+/// or before a value that begins in that line.
 fn sign_before(spot: &Spot<'_>) -> Option<usize> {
     let line = spot.place(spot.at).line;
     for count in 0..spot.tokens.len() {
@@ -195,7 +194,7 @@ fn sign_before(spot: &Spot<'_>) -> Option<usize> {
     None
 }
 
-/// The number of the token with which the value after a sign begins.
+/// The index of the token with which the value after a symbol begins.
 fn value_after(spot: &Spot<'_>, sign: usize) -> usize {
     let next = sign.saturating_add(1);
     if spot.is(sign, Kind::Colon) && spot.is(next, Kind::Equal) {
@@ -205,8 +204,8 @@ fn value_after(spot: &Spot<'_>, sign: usize) -> usize {
     }
 }
 
-/// The tokens of a value from its first on, to the end of its line or to the next item, and of
-/// further lines while a bracket is open.
+/// The tokens of a value from its first on, up to the end of its line or the next item, and of further lines while a
+/// bracket is open.
 fn value_tokens<'a>(spot: &Spot<'a>, first: usize) -> &'a [Token] {
     let rest = spot.tokens.get(first..).unwrap_or(&[]);
     let line = spot.place(first).line;
@@ -225,7 +224,7 @@ fn value_tokens<'a>(spot: &Spot<'a>, first: usize) -> &'a [Token] {
     rest
 }
 
-/// Whether the next item begins at a token: a name and its sign, or the comma before them.
+/// Whether the next item begins at a token: a name and its symbol, or the comma before them.
 fn begins_item(spot: &Spot<'_>, index: usize) -> bool {
     let name = if spot.is(index, Kind::Comma) {
         index.saturating_add(1)
@@ -235,7 +234,7 @@ fn begins_item(spot: &Spot<'_>, index: usize) -> bool {
     spot.is(name, Kind::Name) && is_sign(spot, name.saturating_add(1))
 }
 
-/// A value as it is written, or `..` where it has several lines.
+/// The text of a value, or `..` if it has several lines.
 fn value_text<'a>(spot: &Spot<'a>, first: usize) -> &'a str {
     let text = written_value(spot, first);
     if text.contains("\n") { ".." } else { text }
@@ -250,7 +249,7 @@ fn written_value<'a>(spot: &Spot<'a>, first: usize) -> &'a str {
     str::from_utf8(text).unwrap_or("")
 }
 
-/// Whether a value is a number, a text, a name or a truth value alone, or a set of these.
+/// Whether a value is just a number, a string, a name or a truth value, or a set of these.
 fn is_plain(spot: &Spot<'_>, first: usize) -> bool {
     value_tokens(spot, first).iter().all(|token| {
         matches!(

@@ -14,7 +14,7 @@ use tla_page::places::{Sources, put_at, word};
 use tla_page::units::{Role, known_name};
 use tla_tree::{Definition, Unit};
 
-/// Finds which statement names a formula of too high a level, and what in it is.
+/// Finds which statement names a formula of too high a level, and what in it has that level.
 pub fn find(
     finding: &mut Finding,
     sources: &Sources<'_>,
@@ -42,7 +42,7 @@ pub fn find(
     }
 }
 
-/// The token of an assumption that leads to a definition, if what is refused there has no prime.
+/// The token of an assumption that leads to a definition, if the refused expression there has no prime.
 fn assumed_user(
     finding: &mut Finding,
     spot: &Spot<'_>,
@@ -62,7 +62,7 @@ fn assumed_user(
     }
 }
 
-/// Whether a token is UNCHANGED, begins a formula of time, or is a name with a prime.
+/// Whether a token is UNCHANGED, begins a temporal formula, or is a name with a prime.
 fn is_primed(spot: &Spot<'_>) -> bool {
     spot.is(spot.at, Kind::Unchanged)
         || begins_temporal(spot.kind(spot.at))
@@ -86,7 +86,7 @@ fn user_in_assumptions<'a>(
     Ok(None)
 }
 
-/// Says that an assumption leads to a definition which speaks of variables.
+/// Says that an assumption leads to a definition that mentions variables.
 fn say_assumed(finding: &mut Finding, spot: &Spot<'_>, user: usize) {
     let used = spot.word(user);
     finding.say(
@@ -103,7 +103,6 @@ fn say_assumed(finding: &mut Finding, spot: &Spot<'_>, user: usize) {
     ]);
 }
 
-/// Whether a place is in an assumption.
 fn is_assumed(units: &[Unit], place: Place) -> bool {
     let mut assumed = false;
     for unit in units {
@@ -127,7 +126,7 @@ fn is_assumed(units: &[Unit], place: Place) -> bool {
     assumed
 }
 
-/// Says that an assumption speaks of a variable.
+/// Says that an assumption mentions a variable.
 fn find_assumed(finding: &mut Finding, spot: &Spot<'_>, definitions: &Definitions<'_>) {
     let name = spot.word(spot.at);
     let place = spot.place(spot.at);
@@ -145,8 +144,8 @@ fn find_assumed(finding: &mut Finding, spot: &Spot<'_>, definitions: &Definition
     ]);
 }
 
-/// Whether a formula of time begins at a token of a definition, which has these tokens: `[]`, `<>`
-/// or fairness, or `~>` with nothing primed on its left.
+/// Whether a temporal formula begins at a token of a definition with these tokens: `[]`, `<>` or fairness, or `~>` with
+/// nothing primed on its left.
 fn is_temporal(spot: &Spot<'_>, tokens: &[Token]) -> bool {
     begins_temporal(spot.kind(spot.at)) || leads_on(spot, tokens)
 }
@@ -158,7 +157,7 @@ fn begins_temporal(kind: Option<Kind>) -> bool {
     )
 }
 
-/// Whether `~>` is the first token of time or of a next value after this one.
+/// Whether `~>` comes after this token, before any prime or UNCHANGED.
 fn leads_on(spot: &Spot<'_>, tokens: &[Token]) -> bool {
     let place = spot.place(spot.at);
     for token in tokens {
@@ -175,8 +174,8 @@ fn is_action_box(spot: &Spot<'_>) -> bool {
     spot.is(spot.at, Kind::Box) && spot.ahead(1) == Some(Kind::LeftBracket)
 }
 
-/// The first statement that names a formula which leads to a definition, but for NEXT where time
-/// isn't what is wrong.
+/// The first statement that names a formula which leads to a definition; not SPECIFICATION, and NEXT only if the error
+/// is a temporal formula.
 fn statement_of<'a>(
     finding: &Finding,
     definitions: &Definitions<'a>,
@@ -266,7 +265,7 @@ fn hint_temporal(finding: &mut Finding, one: &Named<'_>) {
     }
 }
 
-/// Says that something is primed twice, and where the definition that has a prime gets another.
+/// Says that something is primed twice, and where the definition with a prime gets another.
 fn say_primes(finding: &mut Finding, spot: &Spot<'_>, own: &str) {
     finding.say(spot.place(spot.at), &["a prime on what has one already"]);
     finding.hint(&["x' is the value in the next state: there is none after that"]);

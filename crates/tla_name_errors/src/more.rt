@@ -1,4 +1,4 @@
-//! Names that are unknown beside the first.
+//! Further unknown names after the first.
 
 use crate::arguments::given_arguments;
 use crate::statements::{config_of, formulas_named, item_name, items_of};
@@ -12,11 +12,11 @@ use tla_page::output::Output;
 use tla_page::units::{Known, Role, known_name, known_names, text_of};
 use tla_tree::{Declaration, Unit, Word, Written};
 
-/// How many names are reported beside the first.
+/// How many names are reported after the first.
 pub const MOST_NAMES: usize = 9;
 
-/// Where names are that are unknown in a module, each once, if the one at the first place were
-/// known: at most one more than are reported. The only error is out of memory.
+/// The places of the names that would be unknown in a module if the first unknown one were known, each name once: at
+/// most one more than are reported. The only error is that memory ran out.
 pub fn unknown_places(
     alloc: Global,
     spot: &Spot<'_>,
@@ -40,8 +40,8 @@ pub fn unknown_places(
     Ok(places)
 }
 
-/// Where the names are that statements of a configuration give to no definition of these units,
-/// each once, but for those that were reported. The only error is out of memory.
+/// The places of the names in statements of a configuration that aren't names of these units, each name once, except
+/// those that were reported. The only error is that memory ran out.
 pub fn unknown_statements(
     alloc: Global,
     configuration: &[u8],
@@ -56,7 +56,7 @@ pub fn unknown_statements(
     places
 }
 
-/// Where the names are that these statements give to no definition of these units.
+/// The places of the names in these statements that aren't names of these units.
 fn unknown_among(
     alloc: Global,
     reported: &[&str],
@@ -71,7 +71,7 @@ fn unknown_among(
     Ok(places)
 }
 
-/// Where the items are of names that the module doesn't have, each once.
+/// The places of the items for names that the module doesn't have, each name once.
 fn unknown_items(
     alloc: Global,
     reported: &[&str],
@@ -93,7 +93,7 @@ fn unknown_items(
     Ok(places)
 }
 
-/// Where the names are that statements give to no definition, each once.
+/// The places of the names of formulas in statements that are no definitions, each name once.
 fn unknown_formulas(
     alloc: Global,
     reported: &[&str],
@@ -112,8 +112,8 @@ fn unknown_formulas(
     Ok(places)
 }
 
-/// The other constants without a value, with commas between them; no text where there are none.
-/// The only error is out of memory.
+/// The other constants without a value, separated by commas; empty if there are none. The only error is that memory ran
+/// out.
 pub fn other_constants(
     alloc: Global,
     known: &[Known<'_>],
@@ -135,7 +135,7 @@ pub fn other_constants(
     Ok(list)
 }
 
-/// Whether an item gives a name a value.
+/// Whether there is an item for a name.
 fn has_item(alloc: Global, statements: &[Statement], name: &str) -> Result<bool, AllocError> {
     for item in items_of(alloc, statements)? {
         if text_of(item_name(item)) == name {
@@ -145,7 +145,6 @@ fn has_item(alloc: Global, statements: &[Statement], name: &str) -> Result<bool,
     Ok(false)
 }
 
-/// Whether a name is that of a definition.
 fn is_definition(known: &[Known<'_>], name: &str) -> bool {
     match known_name(known, name) {
         Some(one) => !matches!(one.role, Role::Variable | Role::Constant),
@@ -153,7 +152,7 @@ fn is_definition(known: &[Known<'_>], name: &str) -> bool {
     }
 }
 
-/// Where the first unknown name of units is, if that is what is refused first.
+/// The place of the first unknown name of units, if it is the first error.
 fn unknown_place(alloc: Global, units: &[Unit]) -> Option<Place> {
     let error = variables(alloc, units).err()?;
     if error.code == DefsCode::UnknownName {
@@ -182,7 +181,7 @@ fn with_known(alloc: Global, units: Vec<Unit>, spot: &Spot<'_>) -> Result<Vec<Un
     Ok(all)
 }
 
-/// Whether a unit brings a name in.
+/// Whether a unit introduces a name.
 fn brings_in(alloc: Global, unit: &Unit, name: &str) -> Result<bool, AllocError> {
     let known: Vec<Known<'_>> = known_names(alloc, std::slice::from_ref(unit))?;
     Ok(known.iter().any(|one| one.name == name))

@@ -8,8 +8,8 @@ use tla_lex::{Kind, Token};
 use tla_page::places::word;
 use tla_page::units::{Known, Role, known_name};
 
-/// A module's tokens, the names that its units bring in, and the statements of the configuration,
-/// which may replace names.
+/// The tokens of a module, the names that its units introduce, and the statements of the configuration, which may
+/// replace names.
 #[derive(Clone, Copy)]
 pub struct Definitions<'a> {
     pub text: &'a [u8],
@@ -19,7 +19,7 @@ pub struct Definitions<'a> {
 }
 
 impl<'a> Definitions<'a> {
-    /// The tokens of what brings a name in, from that name up to the next unit that brings one in.
+    /// The tokens of a definition or declaration, from its name up to the next unit that introduces one.
     pub(crate) fn tokens_of(&self, name: &str) -> &'a [Token] {
         let Some(one) = known_name(self.known, name) else {
             return &[];
@@ -40,7 +40,7 @@ impl<'a> Definitions<'a> {
         rest.get(..len).unwrap_or(rest)
     }
 
-    /// The name that is brought in next after this one.
+    /// The next name that is introduced after this one.
     fn name_after(&self, one: &Known<'_>) -> Option<Known<'a>> {
         for other in self.known {
             if is_before(one.place, other.place) {
@@ -50,7 +50,7 @@ impl<'a> Definitions<'a> {
         None
     }
 
-    /// The definitions that a definition reaches, itself first. The only error is out of memory.
+    /// The definitions that a definition leads to, itself first. The only error is that memory ran out.
     pub(crate) fn definitions_reached(
         &self,
         alloc: Global,
@@ -67,7 +67,7 @@ impl<'a> Definitions<'a> {
         Ok(met)
     }
 
-    /// Adds the definitions that one uses and that were not met before.
+    /// Adds the definitions that a definition uses, unless they are in the list already.
     fn add_used(&self, met: &mut Vec<&'a str>, name: &str) -> Result<(), AllocError> {
         for token in self.tokens_of(name) {
             let used = replacement_of(self.statements, word(self.text, token));

@@ -1,4 +1,4 @@
-//! What a SPECIFICATION lacks.
+//! Errors in the formula of SPECIFICATION.
 
 use crate::reach::Definitions;
 use std::alloc::{AllocError, Global};
@@ -17,7 +17,7 @@ struct Step<'a> {
     subscript: &'a [Token],
 }
 
-/// Finds why what SPECIFICATION names isn't of the form.
+/// Finds why the formula of SPECIFICATION doesn't have the required form.
 pub fn find<'a>(finding: &mut Finding, definitions: &Definitions<'a>, name: &'a str) {
     match steps_of(finding.alloc(), definitions, name) {
         Ok(steps) => find_by_steps(finding, definitions, name, &steps),
@@ -25,7 +25,7 @@ pub fn find<'a>(finding: &mut Finding, definitions: &Definitions<'a>, name: &'a 
     }
 }
 
-/// Says that what SPECIFICATION names is a value, given at a place to the name that it means.
+/// Says that the formula of SPECIFICATION is a value, which an item at a place assigns to the name that it means.
 pub fn say_value(finding: &mut Finding, name: &str, meant: &str, place: Place) {
     finding
         .title
@@ -35,8 +35,7 @@ pub fn say_value(finding: &mut Finding, name: &str, meant: &str, place: Place) {
     finding.hint(&["leave that item out: ", meant, " is defined in the module"]);
 }
 
-/// The parts `[][A]_v` of a definition and of those that it leads to. The only error is out of
-/// memory.
+/// The parts `[][A]_v` of a definition and of those that it leads to. The only error is that memory ran out.
 fn steps_of<'a>(
     alloc: Global,
     definitions: &Definitions<'a>,
@@ -165,7 +164,7 @@ fn has_step(tokens: &[Token]) -> bool {
     false
 }
 
-/// Says which variables the subscript lacks, or which conjunct isn't of the form.
+/// Says which variables are missing in the subscript, or which conjunct doesn't have the required form.
 fn find_in_step(finding: &mut Finding, definitions: &Definitions<'_>, name: &str, step: &Step<'_>) {
     match uncovered_variables(finding.alloc(), definitions, step.subscript) {
         Ok(names) if names.is_empty() => find_conjunct(finding, definitions, name),
@@ -230,7 +229,7 @@ fn say_lacking(finding: &mut Finding, name: &str, step: &Step<'_>, names: &[&str
     }
 }
 
-/// Says which conjunct is neither about the first state, nor the step, nor fairness.
+/// Says which conjunct is neither the initial predicate, nor `[][A]_v`, nor fairness.
 fn find_conjunct(finding: &mut Finding, definitions: &Definitions<'_>, name: &str) {
     finding.title.put(&[
         "SPECIFICATION names ",
@@ -276,7 +275,7 @@ fn primed_alone(tokens: &[Token]) -> Option<Place> {
     None
 }
 
-/// Shows where a definition is, of which these are the tokens.
+/// Shows the definition with these tokens.
 fn show_defined(finding: &mut Finding, name: &str, tokens: &[Token]) {
     if let Some(first) = tokens.first() {
         finding.show_beside(
@@ -287,7 +286,7 @@ fn show_defined(finding: &mut Finding, name: &str, tokens: &[Token]) {
     }
 }
 
-/// Whether a token begins a property of behaviours.
+/// Whether a token begins a temporal property.
 fn is_property(kind: Kind, next: Kind) -> bool {
     match kind {
         Kind::Diamond | Kind::LeadsTo => true,

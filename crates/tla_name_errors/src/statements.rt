@@ -1,4 +1,4 @@
-//! What a configuration's statements name.
+//! The names in the statements of a configuration.
 
 use std::alloc::{AllocError, Global};
 use tla_config::{Config, Item, Statement, parse_config};
@@ -6,7 +6,7 @@ use tla_lex::Place;
 use tla_page::units::text_of;
 use tla_tree::Written;
 
-/// A name of a statement: the statement's word, and where the name is.
+/// A name in a statement, with the statement's keyword and the place of the name.
 #[derive(Clone, Copy)]
 pub(crate) struct Named<'a> {
     pub(crate) statement: &'static str,
@@ -14,17 +14,16 @@ pub(crate) struct Named<'a> {
     pub(crate) place: Place,
 }
 
-/// The statements of a configuration; none where its text is refused or memory ran out.
+/// The statements of a configuration; none if its text is refused or memory ran out.
 pub fn config_of(alloc: Global, configuration: &[u8]) -> Option<Config> {
     parse_config(alloc, configuration).ok()
 }
 
-/// The kinds of statement that name a formula, in the order in which the levels of these are
-/// checked.
+/// The kinds of statement that name a formula, in the order in which the levels of the formulas are checked.
 const KINDS: [&str; 5] = ["INIT", "NEXT", "INVARIANT", "CONSTRAINT", "SPECIFICATION"];
 
-/// The names that the statements of a configuration give to formulas, by kinds of statement. The
-/// only error is out of memory.
+/// The names of formulas in the statements of a configuration, in the order of `KINDS`. The only error is that memory
+/// ran out.
 pub(crate) fn formulas_named(
     alloc: Global,
     statements: &[Statement],
@@ -78,7 +77,7 @@ fn push<'a>(
     Ok(())
 }
 
-/// Where an item of CONSTANT gives a name a value.
+/// The place of the item of CONSTANT that assigns a value to a name.
 pub fn value_place(statements: &[Statement], name: &str) -> Option<Place> {
     for statement in statements {
         if let Statement::Constants(_, items) = statement
@@ -101,8 +100,7 @@ fn value_among(items: &[Item], name: &str) -> Option<Place> {
     None
 }
 
-/// The items of CONSTANT of a configuration, in the order of the text. The only error is out of
-/// memory.
+/// The items of CONSTANT of a configuration, in the order of the text. The only error is that memory ran out.
 pub(crate) fn items_of(alloc: Global, statements: &[Statement]) -> Result<Vec<&Item>, AllocError> {
     let mut all = Vec::new(alloc);
     for statement in statements {
@@ -128,7 +126,7 @@ pub(crate) fn item_name(item: &Item) -> &Written {
     }
 }
 
-/// What a name means by the items `c <- Op` of a configuration.
+/// The name that replaces a name by an item `c <- Op` of a configuration, or the name itself.
 pub fn replacement_of<'a>(statements: &'a [Statement], name: &'a str) -> &'a str {
     for statement in statements {
         if let Statement::Constants(_, items) = statement

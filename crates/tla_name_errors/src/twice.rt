@@ -1,4 +1,4 @@
-//! Names that are brought in twice.
+//! Names that are introduced twice.
 
 use tla_config::Source;
 use tla_finding::finding::Finding;
@@ -9,7 +9,7 @@ use tla_page::definitions::definition_at;
 use tla_page::units::{Known, known_name};
 use tla_tree::Unit;
 
-/// Finds where a name of a module is brought in first.
+/// Finds where a name of a module is introduced first.
 pub fn find(finding: &mut Finding, spot: &Spot<'_>, units: &[Unit], known: &[Known<'_>]) {
     let name = spot.word(spot.at);
     let place = spot.place(spot.at);
@@ -28,7 +28,7 @@ pub fn find(finding: &mut Finding, spot: &Spot<'_>, units: &[Unit], known: &[Kno
     }
 }
 
-/// Says of which module a name is, if it is of one that is extended.
+/// Says to which extended module a name belongs, if there is one.
 fn hint_library(finding: &mut Finding, name: &str) {
     if let Some(module) = module_with(name.as_bytes()) {
         say_module(finding, name, module);
@@ -45,7 +45,7 @@ fn is_field(spot: &Spot<'_>, at: usize) -> bool {
     matches!(next, Some(Kind::MapsTo | Kind::Colon))
 }
 
-/// Where the name at a token is brought in before: by a unit, or in the same definition.
+/// Where the name at a token is introduced before: by a unit, or in the same definition.
 fn first_of(spot: &Spot<'_>, units: &[Unit], known: &[Known<'_>]) -> Option<Place> {
     let name = spot.word(spot.at);
     let place = spot.place(spot.at);

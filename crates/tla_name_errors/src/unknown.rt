@@ -1,4 +1,4 @@
-//! Names of a module that are unknown where they are used.
+//! Unknown names of a module.
 
 use crate::reach::Definitions;
 use std::alloc::{AllocError, Global};
@@ -42,7 +42,7 @@ pub fn find(finding: &mut Finding, spot: &Spot<'_>, units: &[Unit], known: &[Kno
     }
 }
 
-/// What a word of another language, of fairness or of CASE is in this one.
+/// What to write for a word of another language, of fairness or of CASE.
 fn meant_here(spot: &Spot<'_>) -> Option<&'static str> {
     let name = spot.word(spot.at);
     let is_called = spot.ahead(1) == Some(Kind::LeftParen);
@@ -58,7 +58,7 @@ fn meant_here(spot: &Spot<'_>) -> Option<&'static str> {
     }
 }
 
-/// Whether a name is what other languages write for OTHER.
+/// Whether a name is the word of other languages for OTHER.
 fn is_default(name: &str) -> bool {
     name.eq_ignore_ascii_case("OTHER")
         || name.eq_ignore_ascii_case("OTHERWISE")
@@ -85,7 +85,7 @@ fn find_backslashed(finding: &mut Finding, spot: &Spot<'_>) -> bool {
     true
 }
 
-/// Finds where a name is defined that is unknown here.
+/// Finds where an unknown name is defined.
 fn find_defined(
     finding: &mut Finding,
     spot: &Spot<'_>,
@@ -107,7 +107,7 @@ fn find_defined(
     }
 }
 
-/// Says that a name is brought in below its use.
+/// Says that a name is introduced after its use.
 fn say_later(
     finding: &mut Finding,
     spot: &Spot<'_>,
@@ -199,7 +199,7 @@ fn hint_recursion(finding: &mut Finding, name: &str) {
     ]);
 }
 
-/// Whether a name is defined by the LET that is open at its use, and so in its own body.
+/// Whether a name is defined by the LET that is open at its use, that is, used in its own definition.
 fn is_in_its_let(finding: &mut Finding, spot: &Spot<'_>, name: &str) -> bool {
     let open = match innermost_let(finding.alloc(), spot) {
         Ok(open) => open,
@@ -220,8 +220,7 @@ fn is_in_its_let(finding: &mut Finding, spot: &Spot<'_>, name: &str) -> bool {
     false
 }
 
-/// The LET that is open at a token, whatever else is open inside it. The only error is out of
-/// memory.
+/// The innermost LET that is open at a token. The only error is that memory ran out.
 fn innermost_let(alloc: Global, spot: &Spot<'_>) -> Result<Option<Token>, AllocError> {
     let mut place = spot.place(spot.at);
     for _ in 0..spot.tokens.len() {
@@ -234,7 +233,7 @@ fn innermost_let(alloc: Global, spot: &Spot<'_>) -> Result<Option<Token>, AllocE
     Ok(None)
 }
 
-/// Finds the module that has a name, or what to write where that can't be extended.
+/// Finds the module that has a name, or what to write if that can't be extended.
 fn find_in_modules(finding: &mut Finding, spot: &Spot<'_>) -> bool {
     let name = spot.word(spot.at);
     if let Some(module) = module_with(name.as_bytes()) {
@@ -255,7 +254,7 @@ fn find_in_modules(finding: &mut Finding, spot: &Spot<'_>) -> bool {
     }
 }
 
-/// Says of which module a name is.
+/// Says to which module a name belongs.
 pub(crate) fn hint_module(finding: &mut Finding, name: &str, module: &str) {
     finding.hint(&[
         "'",
@@ -289,7 +288,7 @@ fn is_bound_for_arrow(spot: &Spot<'_>) -> bool {
     false
 }
 
-/// Adds the nearest name that is known at the place, or that it has to be declared.
+/// Adds the nearest name in scope, or that the name has to be declared.
 fn hint_near(finding: &mut Finding, spot: &Spot<'_>, units: &[Unit], known: &[Known<'_>]) {
     let name = spot.word(spot.at);
     let found = hint_known(finding, name, spot.place(spot.at), known)
@@ -307,7 +306,7 @@ fn hint_near(finding: &mut Finding, spot: &Spot<'_>, units: &[Unit], known: &[Kn
     }
 }
 
-/// Adds the nearest name that the units bring in before a place.
+/// Adds the nearest name that the units introduce before a place.
 fn hint_known(finding: &mut Finding, name: &str, place: Place, known: &[Known<'_>]) -> bool {
     let near = match names_above(finding.alloc(), known, place) {
         Ok(names) => meant(finding.alloc(), name, &names),
@@ -316,7 +315,7 @@ fn hint_known(finding: &mut Finding, name: &str, place: Place, known: &[Known<'_
     ask_near(finding, near)
 }
 
-/// Adds the nearest name that is in the same definition, before the place.
+/// Adds the nearest name before the place in the same definition.
 fn hint_local(finding: &mut Finding, spot: &Spot<'_>, units: &[Unit], known: &[Known<'_>]) -> bool {
     let near = match local_names(finding.alloc(), spot, units, known) {
         Ok(names) => meant(finding.alloc(), spot.word(spot.at), &names),
@@ -340,7 +339,7 @@ fn hint_library(finding: &mut Finding, name: &str, units: &[Unit]) -> bool {
     true
 }
 
-/// Asks whether a name was meant, if there is one.
+/// Asks whether a name was meant, if one is near.
 fn ask_near(finding: &mut Finding, near: Result<Option<&str>, AllocError>) -> bool {
     match near {
         Ok(Some(other)) => {
@@ -355,7 +354,7 @@ fn ask_near(finding: &mut Finding, near: Result<Option<&str>, AllocError>) -> bo
     }
 }
 
-/// The names that the units bring in before a place, but those of assumptions.
+/// The names that the units introduce before a place, except those of assumptions.
 fn names_above<'a>(
     alloc: Global,
     known: &[Known<'a>],

@@ -1,4 +1,4 @@
--- Whether the arguments of a function are the values beside them.
+-- Whether the arguments of a function are some values.
 use Rattle.std.proofs.Common.{◌≡◌, ℕ, zero, suc, ◌+◌, ◌<◌, Bool, true, false, List, [], ◌∷◌, Some, map, length, arith, drop, get_or, option_map, refl, sym, ap, ◌∙◌, true≢false, add-one}
 use Rattle.std.specs.Prelude.{slice_get}
 use Rattle.tla_value.specs.Tree.{Tree, Trees, set, more_trees, trees, members-trees, members}
@@ -35,7 +35,7 @@ other_length us vs e = go (tree_eq (set (trees us)) (set (trees vs))) refl
     go true h = absurd (e (ap length (sym (members-trees us) ∙ ap members (set-same _ _ (eq-true _ _ h)) ∙ members-trees vs)))
     go false h = h
 
--- ---- from one place on
+-- ---- from one index on
 abbrev pub same_from : List Tree → List Value → ℕ → Bool
 same_from ts vs i = tree_eq (set (trees (drop i ts))) (set (trees (drop i (map tree_of vs))))
 

@@ -1,4 +1,4 @@
--- How many different members there are, and what is gathered of them.
+-- The number of distinct members, and their collection.
 use Rattle.std.proofs.Common.{◌≡◌, ℕ, suc, ◌*◌, ◌^◌, ◌-◌, ◌<◌, ◌≤◌, ◌||◌, nat_lt, min, max, Bool, true, false, List, [], ◌∷◌, ◌++◌, append_assoc, append-nil, length, map, take, drop, get_or, drop-cons, add-one, ◌+◌, refl, sym, ap, subst, ◌∙◌, inl, inr, arith, Less, Equal, Greater, Ok, Err}
 use Rattle.std.proofs.lemmas.List.{length-map, length-append, map-append, take_more, drop_all}
 use Rattle.std.proofs.lemmas.Bool.Decides.{nat_tests}
@@ -21,7 +21,7 @@ use Rattle.tla_operators.specs.declared.gathered.Gathered.{Gathered}
 use Rattle.tla_operators.proofs.Members.{member-append}
 use Rattle.tla_operators.proofs.Made.{within_many}
 
--- ---- how many different ones there are
+-- ---- the number of distinct ones
 insert_few : (xs : List Tree) (t : Tree) → length (insert_key tree_cmp xs t) ≤ suc (length xs)
 insert_few [] t = omega arith
 insert_few (x ∷ xs) t =
@@ -64,7 +64,7 @@ turned xs ys = same_set (xs ++ ys) (ys ++ xs) (λ q. member-append q xs ys ∙ o
     or_turned false true = refl
     or_turned false false = refl
 
--- with more members there are no fewer different ones
+-- with more members there are at least as many distinct ones
 pub different_more : (ts xs : List Tree) → different ts ≤ different (ts ++ xs)
 different_more ts xs = subst (λ (us : List Tree). different ts ≤ length us) (turned xs ts) (different_behind xs ts)
 
@@ -88,7 +88,7 @@ same_once : (us ts : List Tree) → MakeSameSet us ts → MakeSameSet (set_of us
 same_once us ts (inl e) = inl (set_twice us ∙ e)
 same_once us ts (inr h) = inr (subst (λ (xs : List Tree). 1000000 < length xs) (sym (set_twice us)) h.0, h.1)
 
--- ---- what is gathered
+-- ---- the collection
 pub none_gathered : (g : Gathered) → g.values.items ≡ [] → g.room ≡ 1024 → g.is_full ≡ false → IsGathered [] g
 none_gathered g e r f = record {
   held = record {
@@ -102,7 +102,7 @@ none_gathered g e r f = record {
     false_true : (let b : Bool = false in b ≡ true) → ⊥
     false_true k = cc
 
--- one more, of which there are too many already
+-- one more, when there are too many already
 pub still_gathered : (ts : List Tree) (t : Tree) (g : Gathered) → g.is_full ≡ true → IsGathered ts g → IsGathered (ts ++ t ∷ []) g
 still_gathered ts t g f h =
     let us = map tree_of g.values.items in
@@ -133,7 +133,7 @@ held_more ts v old new f e h =
 pub room_more : (ts : List Tree) (t : Tree) (g : Gathered) → g.is_full ≡ false → IsGathered ts g → g.room ≤ most_held (ts ++ t ∷ [])
 room_more ts t g f h = let free = h.free f in omega (arith, free.1, different_more ts (t ∷ []))
 
--- where there is room for another
+-- if there is room for another
 pub gathered_so : (ts : List Tree) (g : Gathered) → IsHeld ts (map tree_of g.values.items) → g.is_full ≡ false → length g.values.items < g.room → g.room ≤ most_held ts → IsGathered ts g
 gathered_so ts g h f l r = record {
   held = h;
@@ -144,7 +144,7 @@ gathered_so ts g h f l r = record {
     false_true : (let b : Bool = false in b ≡ true) → ⊥
     false_true k = cc
 
--- where doubles are dropped
+-- if duplicates are dropped
 pub gathered_once : (ts us : List Tree) (g : Gathered) (n : ℕ) → n ≡ length g.values.items → map tree_of g.values.items ≡ set_of us → g.is_full ≡ nat_lt 1000000 n → g.room ≡ max 1024 (min (n * 2) (2 ^ 64 - 1)) → IsHeld ts us → IsGathered ts g
 gathered_once ts us g n long e f r h =
     let count : n ≡ different us = long ∙ sym (length-map g.values.items tree_of) ∙ ap length e in
@@ -174,7 +174,7 @@ gathered_once ts us g n long e f r h =
     bound : (n m d : ℕ) → m ≡ max 1024 (min (n * 2) (2 ^ 64 - 1)) → n ≤ 1000000 → d ≡ n → m ≤ max 1024 (2 * min 1000000 d)
     bound n m d k l i = omega (arith, k, l, i)
 
--- ---- several, one after the other
+-- ---- several in turn
 pub taken : (vs : List Value) (i : ℕ) (x : Value) → x ≡ get_or vs i x → i < length vs → map tree_of (take (i + 1) vs) ≡ map tree_of (take i vs) ++ tree_of x ∷ []
 taken vs i x is l = ap (map tree_of) (take_more vs i x l ∙ ap (λ y. take i vs ++ y ∷ []) (sym is)) ∙ map-append tree_of (take i vs) (x ∷ [])
 
@@ -184,7 +184,7 @@ adds_none g = λ ts h. subst (λ (us : List Tree). IsGathered us g) (sym (append
 pub adds_more : (us vs : List Tree) (f g h : Gathered) → Adds us f g → Adds vs g h → Adds (us ++ vs) f h
 adds_more us vs f g h a b = λ ts i. subst (λ (xs : List Tree). IsGathered xs h) (append_assoc ts us vs) (b (ts ++ us) (a ts i))
 
--- ---- the set of what is gathered
+-- ---- the set of the collection
 pub gathered_set : (p : Place) (us ts : List Tree) → MakeSameSet us ts → rising_set p (set_of us) ≡ make_set p ts
 gathered_set p us ts (inl e) = ap (rising_set p) e
 gathered_set p us ts (inr h) =

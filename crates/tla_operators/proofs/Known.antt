@@ -37,7 +37,7 @@ on_sets_known p rule x y xs ys e f =
     ap (λ (o : Outcome (List Tree)). o >>= λ us. as_set p (tree_of y) >>= λ vs. make_set p (rule us vs)) (as_set_known p x xs e)
     ∙ ap (λ (o : Outcome (List Tree)). o >>= λ vs. make_set p (rule xs vs)) (as_set_known p y ys f)
 
--- what is kept of a rising list rises
+-- a filtered rising list rises
 pub set_of_kept : (p : Place) (keep : Tree → Bool) (ts : List Tree) → IsStrictlySortedBy tree_cmp ts → make_set p (filter keep ts) ≡ rising_set p (filter keep ts)
 set_of_kept p keep ts h = ap (rising_set p) (set_of-rising (filter keep ts) (IsStrictlySortedBy-filter tree_cmp keep ts h))
 

@@ -1,4 +1,4 @@
--- What a call that makes a set or a function answers, as the value of an expression.
+-- The result of a call that builds a set or a function, as the value of an expression.
 use Rattle.std.proofs.Common.{◌≡◌, ◌⊎◌, ℕ, ◌<◌, ◌≤◌, suc, max, List, length, Ok, Err, arith, inl, inr, refl, ap, subst}
 use Rattle.std.proofs.lemmas.Bool.Decides.{nat_tests}
 use Rattle.tla_value.specs.Tree.{Tree, Trees, Pairs, truth, int, text, model, set, fun, no_trees, more_trees, no_pairs, more_pairs, trees, pairs, members, entries, pair_count, deepest, deepest_pair, members-trees, entries-pairs}

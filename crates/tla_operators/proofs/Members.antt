@@ -1,4 +1,4 @@
--- Facts on membership: of lists made by `++`, of made sets, of sublists, of choices and of sets of functions.
+-- Facts on membership: in concatenations, new sets, sublists, choices and sets of functions.
 use Rattle.std.proofs.Common.{◌≡◌, ℕ, Bool, true, false, cond, ◌&&◌, ◌||◌, List, [], ◌∷◌, ◌++◌, map, filter, zip, length, refl, sym, ap, subst, ◌∙◌, Some, None, Ok, Err, ⊎_elim, nat_lt}
 use Rattle.std.specs.List.{list_any, list_all}
 use Rattle.tla_value.specs.Tree.{Tree, Trees, Pairs, truth, int, text, model, set, fun, trees, pairs, members, entries, members-trees, entries-pairs, deepest}
@@ -39,7 +39,7 @@ pub all-by : (test : Tree → Bool) (xs : List Tree) → ((q : Tree) → is_memb
 all-by test [] h = refl
 all-by test (x ∷ xs) h = both-and (test x) _ (h x (or-first (tree_eq x x) _ (eq-refl x))) (all-by test xs (λ q i. h q (or-second (tree_eq q x) _ i)))
 
--- ---- outcomes, and made sets
+-- ---- outcomes, and new sets
 pub bind-ok : {A B : Type 0} (r : Outcome A) (k : A → Outcome B) (y : B) → (r >>= k) ≡ Ok y → (x : A) × (r ≡ Ok x) × (k x ≡ Ok y)
 bind-ok (Ok x) k y h = (x, refl, h)
 bind-ok (Err f) k y h = cc
@@ -64,7 +64,7 @@ fun-same a b h = cc
 pub within-ok : (p : Place) (n d : ℕ) (t u : Tree) → within p n d t ≡ Ok u → t ≡ u
 within-ok p n d t u h = ok-ok t u (cond-err (nat_lt 63 d) (Ok t) (record { code = TooDeep; place = Some p; variable = None }) u (cond-err (nat_lt 1000000 n) _ (record { code = TooMany; place = Some p; variable = None }) u h))
 
--- the members of a set that was made
+-- the members of a new set
 pub made-sized : (p : Place) (size : ℕ) (xs : List Tree) (us : Trees) → sized_set p size (set_of xs) ≡ Ok (set us) → (v : Tree) → is_member v (members us) ≡ is_member v xs
 made-sized p size xs us h v =
     let f : trees (set_of xs) ≡ us = set-same _ _ (within-ok p size (deepest (trees (set_of xs))) (set (trees (set_of xs))) (set us) h) in
@@ -122,7 +122,7 @@ pub zip-pairs : (ps : List (Tree × Tree)) → zip (arguments ps) (images ps) �
 zip-pairs [] = refl
 zip-pairs (p ∷ ps) = ap (λ qs. p ∷ qs) (zip-pairs ps)
 
--- each value of a function stands in a list
+-- each value of a function is in a list
 abbrev pub into : List Tree → List (Tree × Tree) → Bool
 into ys ps = list_all (λ (p : Tree × Tree). is_member p.1 ys) ps
 
@@ -139,7 +139,7 @@ zip-arguments ys (x ∷ xs) (v ∷ vs) h =
     let r = zip-arguments ys xs vs both.1 in
     (ap (λ zs. x ∷ zs) r.0, both-and (is_member v ys) _ both.0 r.1)
 
--- the functions on xs into ys are those whose arguments are xs and whose values stand in ys
+-- the functions on xs into ys are those whose arguments are xs and whose values are in ys
 pub member-functions : (ps : List (Tree × Tree)) (xs ys : List Tree) → is_member (fun (pairs ps)) (functions_of xs ys) ≡ (tree_eq (set (trees (arguments ps))) (set (trees xs)) && into ys ps)
 member-functions ps xs ys =
     bool-iff _ _

@@ -56,7 +56,7 @@ large_power m n h k =
     let high : 2 ^ n ≤ m ^ n = pow-le-pow_left h n in
     omega (arith, low, high)
 
--- a number so far from 0 is outside, whatever its sign
+-- a number this far from 0 is outside, whatever its sign
 too_far : (k : ℕ) (b : Bool) → 18446744073709551616 ≤ k → FitsSigned w64 (cond b (pos k) (neg_ℤ (pos k))) → ⊥
 too_far zero b h f = omega arith
 too_far (suc k) true h f = omega (arith, ints)

@@ -1,4 +1,4 @@
--- What a call answers: the value or the fault that the definition gives, unless memory ran out. (This project's own choice.)
+-- The result of a call: the value or the fault of the definition, unless memory ran out. (This project's own choice.)
 use Rattle.std.specs.Prelude.{◌≡◌, ◌⊎◌, ℤ, Bool, List, Some, None, Result, Ok, Err}
 use Rattle.std.proofs.Common.{Bor}
 use Rattle.tla_value.specs.Tree.{Tree}
@@ -26,7 +26,7 @@ Gives r o = GivesBy tree_of r o
 abbrev pub GivesTruth : Result Bool Fault → Outcome Bool → Type 0
 GivesTruth r o = GivesBy (λ (b : Bool). b) r o
 
--- a value that is lent
+-- a borrowed value
 abbrev pub GivesBorrowed : Result (Bor Value) Fault → Outcome Tree → Type 0
 GivesBorrowed r o = GivesBy (λ (v : Bor Value). tree_of v.now) r o
 
@@ -43,7 +43,7 @@ contains_rule p x v = do
   xs ← as_set p x
   Ok (is_member v xs)
 
--- the fault for a limit that a value would pass
+-- the fault for a limit that a value would exceed
 abbrev pub IsRefusal : ValueError → Place → Fault → Type 0
 IsRefusal TooMany p f = f ≡ record { code = FaultCode.TooMany; place = Some p; variable = None }
 IsRefusal TooDeep p f = f ≡ record { code = FaultCode.TooDeep; place = Some p; variable = None }
@@ -55,7 +55,7 @@ subsets_rule p x = do
   xs ← as_set p x
   make_set p (subsets_of xs)
 
--- the tuples with one part of each value
+-- the tuples with one item of each set
 abbrev pub tuples_rule : Place → List Tree → Outcome Tree
 tuples_rule p vs = do
   lists ← each (as_set p) vs

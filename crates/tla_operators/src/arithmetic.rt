@@ -11,7 +11,7 @@ use crate::fault_ref::{FaultRef, fault_at};
 use tla_core::{FaultCode, Place};
 use tla_value::Value;
 
-/// The number that an operation gave, where it lies within 64 bits.
+/// The result of a checked operation as a value; a fault if it isn't within 64 bits.
 #[tactic(auto, using(crate::proofs::Numbers::number_in_range, crate::proofs::Numbers::number_outside))]
 pub(crate) fn number(place: &Place, checked: Option<i64>) -> Result<Value, FaultRef<'_>>
     ensures { (z : ℤ) → SomeIff checked (FitsSigned w64 z) z → Gives result (number place.now z) }
@@ -86,7 +86,7 @@ fn natural_power(place: &Place, base: i64, exponent: u64) -> Result<Value, Fault
     }
 }
 
-/// A power whose exponent is so large that only the powers of -1, 0 and 1 are within 64 bits.
+/// A power with an exponent so large that only powers of -1, 0 and 1 are within 64 bits.
 fn high_power(place: &Place, base: i64, exponent: u64) -> Result<Value, FaultRef<'_>>
     requires { 64 ≤ exponent }
     ensures { Gives result (number place.now (int_pow base exponent)) }

@@ -10,7 +10,7 @@ use crate::rules::copied;
 use std::alloc::Global;
 use tla_value::Value;
 
-/// A value that is borrowed from the expression or its environment, or one that was made.
+/// A value that is borrowed from the expression or its environment, or a new one.
 #[derive(Drop)]
 pub enum Evaluated<'a> {
     Borrowed(&'a Value),
@@ -35,7 +35,7 @@ impl<'a> Evaluated<'a> {
         }
     }
 
-    /// The value, copied where it was borrowed.
+    /// The value, copied if it is borrowed. Fails only if memory ran out.
     pub fn into_value<'p>(self, alloc: Global) -> Result<Value, FaultRef<'p>>
         ensures { Gives result (Ok (tree_of_evaluated self.entry)) }
     {

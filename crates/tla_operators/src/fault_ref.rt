@@ -1,4 +1,4 @@
-//! What stops an evaluation. (This project's own choice.)
+//! Faults while they propagate. (This project's own choice.)
 ghost use Rattle.std.specs.Prelude.{◌≡◌, Some, None};
 ghost use Rattle.tla_core.specs.Fault.{out_of_memory};
 
@@ -6,7 +6,7 @@ use std::alloc::{AllocError, AllocFailed};
 use std::marker::Model;
 use tla_core::{Fault, FaultCode, Place};
 
-/// A fault whose place is borrowed from the expression, so that it takes less room on its way to the caller.
+/// A fault whose place is borrowed from the expression, so that results are smaller.
 #[derive(Drop)]
 pub struct FaultRef<'p> {
     code: FaultCode,
@@ -32,7 +32,7 @@ pub fn fault_at(code: FaultCode, place: &Place) -> FaultRef<'_>
     }
 }
 
-/// The fault that means that memory ran out.
+/// The fault `Memory`.
 pub fn memory<'p>() -> FaultRef<'p>
     ensures { result ≡ out_of_memory }
 {

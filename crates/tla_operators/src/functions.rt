@@ -18,7 +18,7 @@ use std::alloc::Global;
 use tla_core::{FaultCode, Place};
 use tla_value::{FunValue, Text, Value, ValueError};
 
-/// The function that a call made, or the fault for the limit that it would pass.
+/// The function as a value, or the fault for the limit that it would exceed.
 #[tactic(auto, using(crate::proofs::Made::fun_made, crate::proofs::Made::fun_refused))]
 pub fn made_fun(place: &Place, made: Result<FunValue, ValueError>) -> Result<Value, FaultRef<'_>>
     ensures { (ps : List (Tree × Tree))
@@ -31,7 +31,7 @@ pub fn made_fun(place: &Place, made: Result<FunValue, ValueError>) -> Result<Val
     }
 }
 
-/// A value that is a function, copied where it was borrowed.
+/// A value as a function, copied if it is borrowed; another value is a fault.
 pub fn into_function<'p>(
     alloc: Global,
     place: &'p Place,
@@ -45,7 +45,7 @@ pub fn into_function<'p>(
     }
 }
 
-/// A copy of a value that is a function.
+/// A copy of a value as a function; another value is a fault.
 #[tactic(auto, using(crate::proofs::Known::as_fun_known))]
 fn copied_function<'p>(
     alloc: Global,
@@ -63,7 +63,7 @@ fn copied_function<'p>(
     }
 }
 
-/// A value that is a function, by value.
+/// A value as a function; another value is a fault.
 #[tactic(auto, using(crate::proofs::Known::as_fun_known))]
 fn owned_function(place: &Place, value: Value) -> Result<FunValue, FaultRef<'_>>
     ensures { GivesBy (λ f. f) result (as_fun place.now (tree_of value)) }
@@ -74,7 +74,7 @@ fn owned_function(place: &Place, value: Value) -> Result<FunValue, FaultRef<'_>>
     }
 }
 
-/// The function that a value is, if it is one.
+/// A value as a function, if it is one.
 #[tactic(auto, using(crate::proofs::Known::pairs_known))]
 pub fn if_function<'a>(value: &'a Value) -> Option<&'a FunValue>
     ensures { option_map (λ f. f.now) result ≡ pairs_of (tree_of value.now) }
@@ -85,7 +85,7 @@ pub fn if_function<'a>(value: &'a Value) -> Option<&'a FunValue>
     }
 }
 
-/// The value of a function at an argument.
+/// The value of a function at an argument: `f[e]`.
 pub fn apply<'p, 'a>(
     alloc: Global,
     place: &'p Place,
@@ -125,7 +125,7 @@ fn value_at<'p, 'a>(
     }
 }
 
-/// The value of a record's field.
+/// The value of a record's field: `r.a`.
 pub fn field<'p, 'a>(
     alloc: Global,
     place: &'p Place,
@@ -163,10 +163,10 @@ fn field_at<'p, 'a>(
     }
 }
 
-/// The most fields among which one is sought from the first on.
+/// The most fields for which a linear search is used.
 const FEW: usize = 16;
 
-/// The value of a function at a string, if it is there.
+/// The value of a function at a string, if that is in the domain.
 fn found_field<'p, 'a>(
     alloc: Global,
     name: &Text,

@@ -1,4 +1,4 @@
-//! The different ones of many values that come one by one.
+//! Collects the distinct ones of many values that arrive one by one.
 ghost use Rattle.std.specs.Prelude.{◌≡◌, ◌≤◌, ◌∷◌, [], List, Ok, false, map, IfErr, OnOk};
 ghost use Rattle.tla_value.specs.Tree.{Tree};
 ghost use Rattle.tla_value.specs.TreeOf.{tree_of};
@@ -14,11 +14,10 @@ use std::alloc::Global;
 use tla_core::Place;
 use tla_value::{MAX_ELEMENTS, SetValue, Value};
 
-/// How many values are held at least before doubles are dropped.
+/// Duplicates are dropped only when at least this many values are held.
 const LEAST_ROOM: usize = 1024;
 
-/// The different ones of some values. If there are more than a set may have, only enough are kept to be certain of
-/// that.
+/// The distinct ones of some values. If there are more than a set may have, only enough of them are kept to know that.
 #[derive(Drop)]
 pub struct Gathered {
     values: Vec<Value>,
@@ -67,7 +66,7 @@ impl Gathered {
         Ok(())
     }
 
-    /// Drops doubles if there is no room left. Then there is room for twice as many values as remain.
+    /// Drops duplicates if no room is left. Then there is room for twice as many values as remain.
     #[tactic(auto, using(crate::proofs::Different::gathered_so))]
     fn make_room(&mut self)
         ensures { (ts : List Tree)
@@ -85,7 +84,7 @@ impl Gathered {
         self.room = LEAST_ROOM.max(left.saturating_mul(2));
     }
 
-    /// The set of the values.
+    /// The set of the values, or the fault for the limit that it would exceed.
     pub fn into_set(self, alloc: Global, place: &Place) -> Result<Value, FaultRef<'_>>
         ensures { (o : Outcome (List Tree))
             → Gathers (Ok self) o

@@ -1,4 +1,4 @@
-//! What operators and forms give of values. (Lamport, Specifying Systems, chapter 16.)
+//! Operators and forms, applied to values. (Lamport, Specifying Systems, chapter 16.)
 #![tactic(auto)]
 
 mod arithmetic;

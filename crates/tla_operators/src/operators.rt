@@ -1,4 +1,4 @@
-//! What an operator gives of the values of its operands.
+//! Operators applied to the values of their operands.
 ghost use Rattle.std.specs.Prelude.{◌≡◌, ℤ, pos, length};
 ghost use Rattle.tla_value.specs.TreeOf.{tree_of};
 ghost use Rattle.tla_core.specs.Expr.{IsFinite, Cardinality, Iff};
@@ -20,7 +20,7 @@ use std::alloc::Global;
 use tla_core::{Binary, FaultCode, Kind, Place, Unary};
 use tla_value::{SetValue, Value};
 
-/// An operator on one value.
+/// The result of an operator on one value, or its fault.
 pub fn unary<'p, 'a>(
     alloc: Global,
     place: &'p Place,
@@ -36,7 +36,7 @@ pub fn unary<'p, 'a>(
     }
 }
 
-/// The value that an operator on one value makes.
+/// The same, for an operator whose result is a new value.
 fn made_by_unary<'p>(
     alloc: Global,
     place: &'p Place,
@@ -58,7 +58,7 @@ fn made_by_unary<'p>(
     }
 }
 
-/// The number that a value is.
+/// A value as a number; another value is a fault.
 fn as_int<'p>(place: &'p Place, operand: &Value) -> Result<i64, FaultRef<'p>>
     ensures { GivesBy (λ (z : ℤ). z) result (as_int place.now (tree_of operand.now)) }
 {
@@ -94,7 +94,7 @@ fn count_of(set: &SetValue) -> i64
     set.items().len() as i64
 }
 
-/// An operator on two values.
+/// The result of an operator on two values, or its fault.
 pub fn binary<'p>(
     alloc: Global,
     place: &'p Place,
@@ -159,7 +159,7 @@ pub fn binary<'p>(
     }
 }
 
-/// The numbers that two values are.
+/// Two values as numbers; another value is a fault.
 pub fn two_ints<'p>(
     place: &'p Place,
     left: &Value,

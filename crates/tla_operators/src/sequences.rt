@@ -20,7 +20,7 @@ use std::alloc::Global;
 use tla_core::{FaultCode, Place};
 use tla_value::{FunValue, Value};
 
-/// The items of a value that is a sequence.
+/// The items of a sequence; another value is a fault.
 #[tactic(auto, using(crate::proofs::Numbered::as_sequence_known, crate::proofs::Numbered::as_sequence_none, crate::proofs::Numbered::few_values, crate::proofs::Numbered::shallow_values))]
 pub(crate) fn items_of<'p, 'a>(
     place: &'p Place,
@@ -77,7 +77,7 @@ pub fn sequence_of(alloc: Global, place: &Place, values: Vec<Value>) -> Result<V
     made_fun(place, FunValue::sequence(alloc, values))
 }
 
-/// The sequence of the items from one place up to another, counted from 0.
+/// The sequence of the items with the indices `from` to `to`, without `to`.
 fn part<'p>(
     alloc: Global,
     place: &'p Place,
@@ -121,7 +121,7 @@ pub(crate) fn head<'p, 'a>(
     }
 }
 
-/// The first item, borrowed.
+/// The first item, borrowed; a fault for an empty sequence.
 pub(crate) fn first_item<'p, 'a>(
     place: &'p Place,
     sequence: &'a Value,

@@ -1,4 +1,4 @@
-//! Sets that are made of the values of parts, and membership in values.
+//! Sets built from values, and membership in values.
 ghost use Rattle.std.specs.Prelude.{◌≡◌, ◌<◌, ◌≤◌, ◌++◌, ◌∷◌, [], Ok, Some, List, false, true, filter, length, map, not, option_map, slice_get};
 ghost use Rattle.tla_value.specs.Tree.{Tree, int, truth, set, trees};
 ghost use Rattle.tla_value.specs.TreeOf.{tree_of};
@@ -23,7 +23,7 @@ use std::alloc::Global;
 use tla_core::{FaultCode, Place};
 use tla_value::{Arguments, FunValue, SetValue, Value, ValueError};
 
-/// The members of a value that is a set.
+/// The members of a set; another value is a fault.
 #[tactic(auto, using(crate::proofs::Known::as_set_known))]
 pub fn members<'p, 'a>(place: &'p Place, set: &'a Value) -> Result<&'a [Value], FaultRef<'p>>
     ensures { GivesBy (λ s. map tree_of s.now) result (as_set place.now (tree_of set.now)) }
@@ -34,7 +34,7 @@ pub fn members<'p, 'a>(place: &'p Place, set: &'a Value) -> Result<&'a [Value], 
     }
 }
 
-/// Whether a set has a value as a member.
+/// Whether a value is a member of a set; anything but a set is a fault.
 #[tactic(auto, using(crate::proofs::Known::as_set_known))]
 pub fn contains<'p>(place: &'p Place, set: &Value, value: &Value) -> Result<bool, FaultRef<'p>>
     ensures { GivesTruth result (contains_rule place.now (tree_of set.now) (tree_of value.now)) }
@@ -45,7 +45,7 @@ pub fn contains<'p>(place: &'p Place, set: &Value, value: &Value) -> Result<bool
     }
 }
 
-/// The fault of a value that would pass a limit.
+/// The fault of a value that would exceed a limit.
 pub fn refused(place: &Place, error: ValueError) -> FaultRef<'_>
     ensures { IsRefusal error place.now result }
 {
@@ -56,7 +56,7 @@ pub fn refused(place: &Place, error: ValueError) -> FaultRef<'_>
     }
 }
 
-/// The set that a call made, or the fault for the limit that it would pass.
+/// The set as a value, or the fault for the limit that it would exceed.
 #[tactic(auto, using(crate::proofs::Made::set_made, crate::proofs::Made::set_refused))]
 pub fn made_set(place: &Place, made: Result<SetValue, ValueError>) -> Result<Value, FaultRef<'_>>
     ensures { (ts : List Tree) → MakesSet ts made → Gives result (rising_set place.now ts) }
@@ -67,7 +67,7 @@ pub fn made_set(place: &Place, made: Result<SetValue, ValueError>) -> Result<Val
     }
 }
 
-/// The members of one set and of another.
+/// `S \cup T`.
 pub fn union_of<'p>(
     alloc: Global,
     place: &'p Place,
@@ -83,7 +83,7 @@ pub fn union_of<'p>(
     }
 }
 
-/// The members of one set that are those of another.
+/// `S \cap T`.
 pub fn intersection_of<'p>(
     alloc: Global,
     place: &'p Place,
@@ -103,7 +103,7 @@ pub fn intersection_of<'p>(
     }
 }
 
-/// The members of one set that are no members of another.
+/// `S \ T`.
 pub fn difference_of<'p>(
     alloc: Global,
     place: &'p Place,
@@ -123,7 +123,7 @@ pub fn difference_of<'p>(
     }
 }
 
-/// All subsets of a set.
+/// `SUBSET S`.
 pub fn subsets_of<'p>(alloc: Global, place: &'p Place, set: &Value) -> Result<Value, FaultRef<'p>>
     ensures { Gives result (subsets_rule place.now (tree_of set.now)) }
 {
@@ -133,7 +133,7 @@ pub fn subsets_of<'p>(alloc: Global, place: &'p Place, set: &Value) -> Result<Va
     }
 }
 
-/// The functions on one set with values in another.
+/// `[S -> T]`.
 pub fn functions_between<'p>(
     alloc: Global,
     place: &'p Place,
@@ -152,7 +152,7 @@ pub fn functions_between<'p>(
     }
 }
 
-/// The set of functions that a call made, or the fault for the limit that it would pass.
+/// The set of functions as a value, or the fault for the limit that it would exceed.
 #[tactic(auto, using(crate::proofs::Made::functions_made, crate::proofs::Made::functions_refused))]
 pub fn made_functions(
     place: &Place,
@@ -168,7 +168,7 @@ pub fn made_functions(
     }
 }
 
-/// The tuples with one part of each value.
+/// `S \X T ..`: the tuples with one item of each set.
 pub fn tuples_with<'p>(
     alloc: Global,
     place: &'p Place,
@@ -180,7 +180,7 @@ pub fn tuples_with<'p>(
     made_functions(place, SetValue::product(alloc, sets.as_slice()))
 }
 
-/// A copy of a value that is a set.
+/// A copy of a value as a set; another value is a fault.
 #[tactic(auto, using(crate::proofs::Known::as_set_known))]
 pub fn copied_set<'p>(
     alloc: Global,
@@ -198,7 +198,7 @@ pub fn copied_set<'p>(
     }
 }
 
-/// Copies of some values that are sets.
+/// Copies of some values as sets; another value is a fault.
 pub fn as_sets<'p>(
     alloc: Global,
     place: &'p Place,
@@ -237,7 +237,7 @@ pub(crate) fn range(
     made_set(place, SetValue::range(alloc, low, high))
 }
 
-/// The members of the members of a set.
+/// `UNION S`.
 pub(crate) fn union_all<'p>(
     alloc: Global,
     place: &'p Place,
@@ -249,7 +249,7 @@ pub(crate) fn union_all<'p>(
     joined(alloc, place, sets)?.into_set(alloc, place)
 }
 
-/// The different members of some sets.
+/// The distinct members of some sets.
 fn joined<'p>(alloc: Global, place: &'p Place, sets: &[Value]) -> Result<Gathered, FaultRef<'p>>
     ensures { Gathers result (joined_sets place.now (map tree_of sets.now)) }
 {
@@ -275,7 +275,6 @@ fn truth_values(alloc: Global, place: &Place) -> Result<Value, FaultRef<'_>>
     made_set(place, SetValue::from_values(alloc, values))
 }
 
-/// Whether a value is a number.
 fn is_number(value: &Value, number: i64) -> bool
     ensures { result ≡ tree_eq (int number) (tree_of value.now) }
 {
@@ -285,14 +284,13 @@ fn is_number(value: &Value, number: i64) -> bool
     }
 }
 
-/// Whether two values are the same.
 fn is_same(left: &Value, right: &Value) -> bool
     ensures { result ≡ tree_eq (tree_of left.now) (tree_of right.now) }
 {
     left == right
 }
 
-/// Whether the argument of a function at a place is a value.
+/// Whether the argument of a function at an index is this value.
 fn is_argument(function: &FunValue, place: usize, value: &Value) -> bool
     requires within { place < length function.now }
     requires few { length function.now ≤ MAX_ELEMENTS }
@@ -306,7 +304,7 @@ fn is_argument(function: &FunValue, place: usize, value: &Value) -> bool
     }
 }
 
-/// Whether the arguments of a function are just these values, in order.
+/// Whether the arguments of a function are exactly these values, in order.
 pub fn has_domain(function: &FunValue, values: &[Value]) -> bool
     ensures { result
         ≡ tree_eq (set (trees (arguments function.now))) (set (trees (map tree_of values.now))) }

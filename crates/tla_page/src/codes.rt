@@ -1,14 +1,14 @@
-//! What the codes of a report mean.
+//! The texts of the codes of a report.
 
-/// What a code means: its rule, an example with the first line of its report, and the cure.
-/// `crates/acceptance/data/CODES.md` has these texts.
+/// What a code means: its rule, an example with the first line of its report, and the cure. The same texts are in
+/// `crates/acceptance/data/CODES.md`.
 #[derive(Clone, Copy, Debug)]
 pub struct CodeText {
     pub code: &'static str,
     pub rule: &'static str,
-    /// Empty where no report shows the code.
+    /// Empty if no report shows the code.
     pub example: &'static str,
-    /// Empty where there is none.
+    /// Empty if there is none.
     pub cure: &'static str,
 }
 
@@ -306,7 +306,7 @@ const E16: CodeText = CodeText {
     cure: "",
 };
 
-// Tables of a stage each, or of half a stage: a function that names fewer texts is proved sooner.
+// A table for each stage or half a stage: a function that mentions fewer texts is proved faster.
 static TOKENS: [CodeText; 8] = [L1, L2, L3, L4, L5, L6, L7, L8];
 
 static TREES: [CodeText; 6] = [P1, P2, P3, P4, P5, P6];

@@ -6,7 +6,7 @@ use tla_hints::is_before;
 use tla_lex::Place;
 use tla_tree::{Definition, Unit, Written};
 
-/// The name of the definition that has a place in it, or the empty text.
+/// The name of the definition that contains a place, or the empty text.
 pub fn definition_at(units: &[Unit], place: Place) -> &str {
     match unit_at(units, place) {
         Some(unit) => start_of(unit).0,
@@ -14,7 +14,7 @@ pub fn definition_at(units: &[Unit], place: Place) -> &str {
     }
 }
 
-/// The parameters of the definition that has a place in it.
+/// The parameters of the definition that contains a place.
 pub fn parameters_at(units: &[Unit], place: Place) -> &[Written] {
     match unit_at(units, place) {
         Some(
@@ -25,7 +25,7 @@ pub fn parameters_at(units: &[Unit], place: Place) -> &[Written] {
     }
 }
 
-/// The unit that has a place in it.
+/// The unit that contains a place.
 fn unit_at(units: &[Unit], place: Place) -> Option<&Unit> {
     let mut found = None;
     for unit in units {
@@ -51,7 +51,7 @@ pub fn definition_starts(
     Ok(starts)
 }
 
-/// Where a unit begins, and the name that it defines; no text where it defines none.
+/// Where a unit begins, and the name that it defines; the empty text if it defines none.
 fn start_of(unit: &Unit) -> (&str, Place) {
     match unit {
         Unit::Operator(name, _) => (text_of(name), name.place),

@@ -50,7 +50,7 @@ impl Output {
         self.bytes.is_empty()
     }
 
-    /// What was added. The only error is that memory ran out.
+    /// The bytes that were added. The only error is that memory ran out.
     pub fn bytes(&self) -> Result<&[u8], AllocError> {
         if self.refused {
             Err(AllocError)
@@ -59,7 +59,7 @@ impl Output {
         }
     }
 
-    /// Remembers that memory was refused.
+    /// Records that memory ran out.
     pub fn refuse(&mut self) {
         self.refused = true;
     }
@@ -103,13 +103,12 @@ impl Output {
         self.put_text(": ");
     }
 
-    /// Adds the text of a value, or its beginning and how much follows.
+    /// Adds the text of a value, or its beginning and the number of bytes that follow.
     pub fn put_value(&mut self, value: &Value) {
         self.put_value_within(value, LONGEST_VALUE);
     }
 
-    /// Adds the text of a value. Where it is longer than this many bytes and values aren't shown
-    /// whole, it is cut.
+    /// Adds the text of a value. A text of more than `longest` bytes is cut, unless values are shown whole.
     pub fn put_value_within(&mut self, value: &Value, longest: usize) {
         let from = self.bytes.len();
         self.refused = self.refused || value.write_text(&mut self.bytes).is_err();
@@ -133,7 +132,7 @@ impl Output {
         is_same
     }
 
-    /// Adds the text of a value, or `..` where it is longer than this many bytes.
+    /// Adds the text of a value, or `..` if it has more than `longest` bytes.
     pub fn put_short_value(&mut self, value: &Value, longest: usize) {
         let from = self.bytes.len();
         self.refused = self.refused || value.write_text(&mut self.bytes).is_err();
@@ -187,7 +186,7 @@ impl Output {
     }
 }
 
-/// How many bytes are shown of a text that is too long to be shown whole.
+/// How many bytes of a text are shown, if it is too long to be shown whole.
 fn shown_of(text: &[u8], longest: usize) -> Option<usize> {
     if text.len() <= longest {
         return None;

@@ -1,4 +1,4 @@
-//! The two texts, their names, and places in them.
+//! The texts of the two files, the names of the files, and places in them.
 
 use crate::output::Output;
 use std::alloc::Global;
@@ -29,7 +29,7 @@ pub fn source_name<'a>(sources: &Sources<'a>, source: Source) -> &'a str {
     }
 }
 
-/// A text.
+/// The text of a file.
 pub fn source_text<'a>(sources: &Sources<'a>, source: Source) -> &'a [u8] {
     match source {
         Source::Module => sources.module,
@@ -37,7 +37,7 @@ pub fn source_text<'a>(sources: &Sources<'a>, source: Source) -> &'a [u8] {
     }
 }
 
-/// The tokens of a text, or no tokens if it is refused.
+/// The tokens of a text, or no tokens if the lexer refuses it.
 pub fn tokens_of(alloc: Global, text: &[u8], source: Source) -> Vec<Token> {
     match source {
         Source::Module => match tokens(alloc, text) {

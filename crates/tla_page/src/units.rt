@@ -1,4 +1,4 @@
-//! What the units of a module bring in.
+//! The names that the units of a module declare and define.
 
 use crate::output::Output;
 use std::alloc::{AllocError, Global};
@@ -27,7 +27,7 @@ impl Role {
         }
     }
 
-    /// How a name of this role is brought in.
+    /// The word for how a name of this role is introduced.
     pub fn brought_in(self) -> &'static str {
         match self {
             Role::Variable | Role::Constant => "declared",
@@ -36,7 +36,7 @@ impl Role {
     }
 }
 
-/// A name, where it is brought in, what it is, and how many arguments it takes.
+/// A name, where it is introduced, its role, and how many arguments it takes.
 #[derive(Clone, Copy)]
 pub struct Known<'a> {
     pub name: &'a str,
@@ -45,7 +45,7 @@ pub struct Known<'a> {
     pub arity: usize,
 }
 
-/// The names that units bring in, in the order of the text.
+/// The names that units introduce, in the order of the text.
 pub fn known_names<'a>(alloc: Global, units: &'a [Unit]) -> Result<Vec<Known<'a>>, AllocError> {
     let mut known = Vec::new(alloc);
     for unit in units {
@@ -75,7 +75,7 @@ pub fn words_of<'a>(alloc: Global, known: &[Known<'a>]) -> Result<Vec<&'a str>, 
     Ok(names)
 }
 
-/// What is known of a name, if it is among these.
+/// The entry of a name, if there is one.
 pub fn known_name<'a>(known: &[Known<'a>], name: &str) -> Option<Known<'a>> {
     for one in known {
         if one.name == name {
@@ -143,7 +143,7 @@ pub fn text_of(written: &Written) -> &str {
     str::from_utf8(written.word.as_bytes()).unwrap_or("")
 }
 
-/// Adds what an assumption is called, by its number from 1: `assumption 2`, or with its name.
+/// Adds the designation of an assumption, given its number from 1: `assumption 2`, or with its name.
 pub fn put_assumption(output: &mut Output, units: &[Unit], number: u64) {
     output.put_text("assumption ");
     let name = assumption_name(units, number);

@@ -1,4 +1,4 @@
-//! Values of variables, and keys on the way into them.
+//! Values of variables, and keys of paths into them.
 
 use crate::output::Output;
 use tla_hints::word_of;

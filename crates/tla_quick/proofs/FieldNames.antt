@@ -24,7 +24,7 @@ module _ (test : Tree → Bool) (fields : List (Bor (List ℕ) × Code)) (i : �
   pub names_stop : f ≡ get_or fields i f → i < length fields → test (text f.0.now) ≡ false → list_all test (names_in (drop i fields)) ≡ false
   names_stop e h g = rw (drop-cons fields i f h) (ap (λ b. b && list_all test (names_in (drop (suc i) fields))) (ap (λ (y : Bor (List ℕ) × Code). test (text y.0.now)) (sym e) ∙ g))
 
--- what is no text is no name
+-- a value that is no text is no name
 pub no_name : (v : Value) (fields : List (Bor (List ℕ) × Code)) → ((s : List ℕ) → v ≡ Text s → ⊥) → is_member (tree_of v) (names_in fields) ≡ false
 no_name v [] h = refl
 no_name (Truth b) (f ∷ fs) h = no_name (Truth b) fs h
@@ -34,7 +34,7 @@ no_name (Model s) (f ∷ fs) h = no_name (Model s) fs h
 no_name (Set ts) (f ∷ fs) h = no_name (Set ts) fs h
 no_name (Fun ps) (f ∷ fs) h = no_name (Fun ps) fs h
 
--- nor is a number
+-- a number is no name
 pub no_numbers : (n : ℕ) (z : ℤ) (fields : List (Bor (List ℕ) × Code)) → 0 < n → list_all (λ a. is_member a (names_in fields)) (counted_up n z) ≡ false
 no_numbers zero z fields l = absurd (omega arith)
 no_numbers (suc n) z fields l = ap (λ b. b && list_all (λ a. is_member a (names_in fields)) (counted_up n (z +ℤ pos 1))) (no_name (Int z) fields (λ s e. cc))

@@ -1,4 +1,4 @@
--- A definition that is around a frame is around each frame inside it.
+-- A definition in scope of a frame is in scope of each frame inside it.
 use Rattle.std.proofs.Common.{◌≡◌, ℕ, zero, suc, List, [], ◌∷◌, ◌++◌, length, Option, Some, None, Ok, IfSome, option_map, slice_get, Bor, refl, ap, sym, ◌∙◌, append_assoc}
 use Rattle.std.proofs.lemmas.Option.{slice_get-map}
 use Rattle.tla_value.specs.Tree.{Tree}
@@ -30,7 +30,7 @@ pub unchanged : {A : Type 0} (xs : List A) → xs ++ [] ≡ xs
 unchanged [] = refl
 unchanged (x ∷ xs) = ap (λ ys. x ∷ ys) (unchanged xs)
 
--- what is around a frame, and in it
+-- what is in scope outside a frame, and in it
 module _ (frame outer : Frame) (s : Present) (t : Next) (more : Bound) (scope : Scope) (deeper : scope_of frame ≡ scope_of outer ++ scope) (longer : bound_of frame ≡ bound_of outer ++ more) (number : ℕ) where
   wider : (k : ℕ) (v : Tree) → IsDefinition outer s t number k v → IsDefinition frame s t number k v
   wider k v d = record {
@@ -51,7 +51,7 @@ module _ (frame outer : Frame) (s : Present) (t : Next) (more : Bound) (scope : 
   found_wider None h = h
   found_wider (Some f) h = value_wider f.value f.names h
 
--- the definition of a frame
+-- the definition that a frame adds
 module _ (frame outer : Frame) (s : Present) (t : Next) (names : ℕ) (d : Code) (deeper : scope_of frame ≡ scope_of outer ++ (names, expr_in (scope_of outer) d) ∷ []) (longer : bound_of frame ≡ bound_of outer) (count : names ≡ length (bound_of outer)) (number : ℕ) (same : number ≡ length (scope_of outer)) where
   here : (v : Tree) → val (expr_in (scope_of outer) d) (bound_of outer) s t ≡ Ok v → IsDefinition frame s t number names v
   here v h = record {
@@ -68,7 +68,7 @@ module _ (frame outer : Frame) (s : Present) (t : Next) (names : ℕ) (d : Code)
   found_here None h = h
   found_here (Some v) h = here (tree_of v.now) h
 
--- no more definitions, and no more names
+-- a frame without a definition, and one without names
 pub same_scope : (frame outer : Frame) → scope_of frame ≡ scope_of outer → scope_of frame ≡ scope_of outer ++ []
 same_scope frame outer e = e ∙ sym (unchanged (scope_of outer))
 

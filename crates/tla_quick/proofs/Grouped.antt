@@ -1,4 +1,4 @@
--- What the value of a group's expression says of its conditions and values.
+-- What the value of a group's expression means for its conditions and values.
 use Rattle.std.proofs.Common.{◌≡◌, ℕ, ◌+◌, Bool, true, false, cond, ◌<◌, List, [], ◌∷◌, ◌++◌, length, map, take, get_or, option_map, IfSome, Option, Some, None, Ok, Err, refl, ap, sym, subst, ◌∙◌, Bor, Vec, Global}
 use Rattle.std.specs.List.{AllZip}
 use Rattle.std.proofs.lemmas.List.{map_more}

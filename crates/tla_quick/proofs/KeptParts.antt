@@ -1,4 +1,4 @@
--- Closed parts that are kept: their scope, and that their values last.
+-- The stored closed parts: their scope, and that their values hold in all states.
 use Rattle.std.proofs.Common.{◌≡◌, ℕ, List, [], ◌∷◌, ◌++◌, length, replicate, Option, Some, None, Result, Ok, Err, IfOk, IfSome, Vec, Global, refl, ap, sym, ◌∙◌}
 use Rattle.std.specs.Result.{result_ok}
 use Rattle.tla_value.specs.TreeOf.{tree_of}
@@ -14,7 +14,7 @@ use Rattle.tla_quick.specs.declared.constant.Constant.{Constant}
 use Rattle.tla_quick.specs.Private.Lasting.{IsLasting}
 use Rattle.tla_quick.specs.Private.Kept.{definition_of, scope_with}
 
--- no names are bound outside any
+-- no names are bound outside any of them
 pub all_outside : (ks : List Constant) → HasNames (scope_with ks) (replicate (length ks) 0)
 all_outside [] = refl
 all_outside (k ∷ ks) = ap (λ (ns : List ℕ). 0 ∷ ns) (all_outside ks)

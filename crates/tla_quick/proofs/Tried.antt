@@ -1,4 +1,4 @@
--- A set, each element of which fits a pattern.
+-- A set whose elements all fit a pattern.
 use Rattle.std.proofs.Common.{◌≡◌, ℕ, List, Result, Ok, Err, refl, ap, sym, subst}
 use Rattle.tla_value.specs.Tree.{Tree, set, trees, members-trees}
 use Rattle.tla_value.specs.TreeOf.{tree_of}

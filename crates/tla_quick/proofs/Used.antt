@@ -1,4 +1,4 @@
--- What is known of a name, and of a use of a definition.
+-- The known value of a name, and of a use of a definition.
 use Rattle.std.proofs.Common.{◌≡◌, ℕ, zero, suc, ◌+◌, List, [], ◌∷◌, ◌++◌, length, get_or, Option, Some, None, Result, Ok, Err, IfOk, OnOk, IfSome, slice_get, Bor, ap, sym, subst, ◌∙◌, arith}
 use Rattle.std.proofs.lemmas.List.{length-append}
 use Rattle.tla_value.specs.Tree.{Tree}
@@ -15,7 +15,7 @@ use Rattle.tla_quick.specs.declared.frame.Frame.{Frame}
 use Rattle.tla_quick.specs.Private.Frames.{bound_of, scope_of, IsDefinition}
 use Rattle.tla_quick.proofs.Found.{unchanged}
 
--- an item that is there
+-- an item that exists
 pub found_or : (b : List Tree) (i : ℕ) (v d : Tree) → slice_get b i ≡ Some v → v ≡ get_or b i d
 found_or [] i v d h = absurd (none_some v h)
   where
@@ -42,7 +42,7 @@ module _ (frame : Frame) (s : Present) (t : Next) (number by k : ℕ) (v : Tree)
       ∙ ap (λ (b : Bound). val d.expr b s t) (unchanged d.outer)
       ∙ d.value
 
--- what is known of a value is known of the same value
+-- a property of a value holds of an equal value
 pub of_value : (P : Tree → Type 0) (o : Option (Bor Value)) (v : Bor Value) → o ≡ Some v → IfSome o (λ w. P (tree_of w.now)) → P (tree_of v.now)
 of_value P o v e h = subst (λ (u : Option (Bor Value)). IfSome u (λ w. P (tree_of w.now))) e h
 

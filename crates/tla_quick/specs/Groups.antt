@@ -1,4 +1,5 @@
--- Conditions, and values that are wanted if all of them are TRUE: conjuncts of an action that are evaluated together. (This project's own choice.)
+-- Conditions, and expressions whose values are needed if all conditions are TRUE: conjuncts of an action that are
+-- evaluated together. (This project's own choice.)
 use Rattle.std.specs.Prelude.{◌≡◌, Bool, true, false, List, map, Option, Some, None, Ok}
 use Rattle.std.proofs.Common.{Bor}
 use Rattle.tla_value.specs.Tree.{Tree}
@@ -9,7 +10,7 @@ use Rattle.tla_core.specs.Lists.{all_hold, each}
 use Rattle.tla_core.specs.Meaning.{Bound, Present, Next, asks}
 use Rattle.tla_core.specs.Value.{val, means}
 
--- the expressions that a list refers to
+-- the expressions that a list of references refers to
 abbrev pub referred : List (Bor Core) → List Core
 referred cores = map (λ (c : Bor Core). c.now) cores
 
@@ -17,7 +18,7 @@ referred cores = map (λ (c : Bor Core). c.now) cores
 abbrev pub is_true : Core → Bound → Present → Next → Outcome Bool
 is_true core b s t = asks (means (expr_of core)).place (means (expr_of core)) b s t
 
--- None: a condition is FALSE, and those before it are TRUE. Some: all are TRUE, and the values are these
+-- None: a condition is FALSE, and those before it are TRUE. Some: all are TRUE, and these are the values.
 abbrev pub AreFound : List Core → List Core → Bound → Present → Next → Option (List Tree) → Type 0
 AreFound conditions values b s t None = all_hold (λ core. is_true core b s t) conditions ≡ Ok false
 AreFound conditions values b s t (Some vs) =

@@ -1,4 +1,4 @@
--- What serves quick evaluation: no public contract cites these.
+-- Definitions for quick evaluation: no public contract cites them.
 pub mod Lasting
 pub mod Kept
 pub mod Grouped

@@ -22,7 +22,7 @@ Fault-set = Coded-set (fault.the_row).coded
 Tree-set : IsSet Tree
 Tree-set = Coded-set coded_tree
 
--- there is one proof of each at most
+-- each has at most one proof
 pub HasSameValue-prop : (e d : Expr) → IsProp (HasSameValue e d)
 HasSameValue-prop e d = hlevel (props, Fault-set, Tree-set)
 

@@ -22,10 +22,10 @@ use tla_eval::Partial;
 use tla_sharing::{constant_in, shared, with_constant};
 use tla_value::Value;
 
-/// The greatest number of closed parts that are kept for an expression.
+/// The greatest number of closed parts that are stored with an expression.
 const MAX_CONSTANTS: usize = 16;
 
-/// A set or a function with more parts isn't kept.
+/// A set or a function with more members or pairs isn't stored.
 const MAX_PARTS: usize = 100_000;
 
 /// An expression under `names` bound names, prepared.
@@ -48,13 +48,13 @@ pub(crate) fn prepare_code<'m>(alloc: Global, code: Code<'m>, names: usize) -> P
     with_definitions(alloc, kept, names)
 }
 
-/// Whether sharing puts a definition around the whole code.
+/// Whether the sharing pass puts a definition around the whole code.
 pub(crate) fn is_shared(alloc: Global, code: &Code<'_>, names: usize) -> bool {
     matches!(shared(alloc, code, names, &[]), Some(Code::Let(_, _, _, _)))
 }
 
-/// A code in which closed parts are replaced by uses of their values. It stops at the first closed part without a
-/// value, so that its fault is found at its place.
+/// A code in which closed parts are replaced by uses of their values. It stops at the first closed part that has no
+/// value, or too large a one.
 fn with_constants<'m>(alloc: Global, code: Code<'m>, names: usize) -> Prepared<'m>
     ensures { prepared_expr result ≡ code_expr code.entry }
 {
@@ -77,7 +77,7 @@ fn with_constants<'m>(alloc: Global, code: Code<'m>, names: usize) -> Prepared<'
     }
 }
 
-/// The code with uses of one closed part more, which is kept.
+/// The code with uses of one more closed part, which is added to `constants`.
 fn extract_constant<'m>(
     alloc: Global,
     constants: &mut Vec<Constant<'m>>,
@@ -98,7 +98,7 @@ fn extract_constant<'m>(
     }
 }
 
-/// A closed part with its value, if there is one that has a value.
+/// The largest closed part with its value, if it has one that isn't too large.
 fn next_constant<'m>(alloc: Global, code: &Code<'m>, names: usize) -> Option<Constant<'m>>
     ensures { IfSome result (λ k. IsClosed k.code) }
 {
@@ -110,7 +110,7 @@ fn next_constant<'m>(alloc: Global, code: &Code<'m>, names: usize) -> Option<Con
     Some(Constant { code: found, value })
 }
 
-/// Whether a value is too large to be kept for each expression that has it.
+/// Whether a value is too large to be stored with each expression that contains it.
 fn is_large(value: &Value) -> bool {
     match value {
         Value::Set(set) => set.len() > MAX_PARTS,
@@ -150,14 +150,14 @@ fn value_alone<'m>(alloc: Global, code: &Code<'m>) -> Option<Value>
     }
 }
 
-/// How many names are bound outside each closed part: none.
+/// The number of names bound outside each closed part: zero.
 fn outside_of(alloc: Global, constants: &[Constant<'_>]) -> Option<Vec<usize>>
     ensures { IfSome result (λ v. HasNames (scope_with constants.now) v.items) }
 {
     vec![in alloc; 0usize; constants.len()].ok()
 }
 
-/// The same expression with a shared code, if sharing finds something.
+/// The same expression, with definitions if the sharing pass finds any.
 fn with_definitions<'m>(alloc: Global, kept: Prepared<'m>, names: usize) -> Prepared<'m>
     ensures { prepared_expr result ≡ prepared_expr kept.entry }
 {
@@ -170,7 +170,7 @@ fn with_definitions<'m>(alloc: Global, kept: Prepared<'m>, names: usize) -> Prep
     }
 }
 
-/// The shared code of an expression, if sharing finds something.
+/// The code with definitions, if the sharing pass finds any.
 fn shared_code<'m>(alloc: Global, kept: &Prepared<'m>, names: usize) -> Option<Code<'m>>
     ensures { IfSome result (λ c.
         expr_in (scope_with kept.now.constants.items) c ≡ prepared_expr kept.now) }

@@ -1,4 +1,4 @@
-//! What is made of all choices from some sets.
+//! Functions and sets over all choices from some sets.
 ghost use Rattle.std.specs.Prelude.{◌≡◌, ◌∷◌, [], IfOk, OnOk, List, length, map, option_map, slice_get, zip};
 ghost use Rattle.tla_value.specs.Tree.{Tree};
 ghost use Rattle.tla_value.specs.TreeOf.{tree_of};
@@ -19,7 +19,7 @@ use tla_operators::sets::copied_set;
 use tla_sets::domain::{Domain, choice_at, domain_of, function_with, lists_of};
 use tla_value::{SetValue, Value};
 
-/// The members of some values that are sets.
+/// The members of each of some sets.
 pub(crate) fn known_lists<'a>(
     alloc: Global,
     place: &Place,
@@ -44,14 +44,14 @@ pub(crate) fn known_choice(
     Ok(choice_at(alloc, lists, number)?)
 }
 
-/// Adds a value to those that are gathered.
+/// Adds a value to a collection.
 pub(crate) fn gather(values: &mut Gathered, value: Value) -> Result<(), Stop>
     ensures { OnOk result (Adds (tree_of value ∷ []) values.old values.new) }
 {
     Ok(values.add(value)?)
 }
 
-/// The set of the gathered values.
+/// The set of the collected values.
 pub(crate) fn gathered_set(alloc: Global, place: &Place, values: Gathered) -> Result<Value, Stop>
     ensures { (ts : List Tree)
         → IsGathered ts values

@@ -1,4 +1,4 @@
-//! What an expression is evaluated in.
+//! The environment of an evaluation.
 ghost use Rattle.std.specs.Prelude.{◌≡◌, length, option_map};
 ghost use Rattle.tla_quick.specs.Private.Frames.{bound_of, scope_of, Knows, Knows-prop};
 
@@ -12,9 +12,9 @@ pub(crate) struct Environment<'m, 'a> {
     pub(crate) frame: &'a Frame<'m, 'a>,
     pub(crate) now: Option<&'a State>,
     pub(crate) next: &'a Partial,
-    /// How many names are bound.
+    /// The number of bound names.
     pub(crate) names: usize,
-    /// How many definitions are around.
+    /// The number of definitions in scope.
     pub(crate) definitions: usize,
     ghost knows: { Knows frame.now (option_map (λ s. s.now) now) next.now } by { Knows-prop frame.now (option_map (λ s. s.now) now) next.now },
     ghost named: { names ≡ length (bound_of frame.now) },

@@ -164,7 +164,7 @@ pub(crate) fn has<'m: 'a, 'a>(
     }
 }
 
-/// The elements of a code that is a set. A range is not made.
+/// The elements of the set that a code denotes. A range is not built.
 #[cycle(evaluate)]
 pub(crate) fn elements<'m: 'a, 'a>(
     alloc: Global,
@@ -184,7 +184,7 @@ pub(crate) fn elements<'m: 'a, 'a>(
     }
 }
 
-/// The elements of a set given by a form with two operands.
+/// The elements of the set of a form with two operands.
 #[cycle(evaluate)]
 fn elements_of_two<'m: 'a, 'a>(
     alloc: Global,
@@ -211,7 +211,7 @@ fn elements_of_two<'m: 'a, 'a>(
     }
 }
 
-/// Whether a form with two operands gives a truth value.
+/// Whether the value of a form with two operands is a truth value.
 pub(crate) fn gives_truth(form: TwoForm) -> bool {
     match form {
         TwoForm::Equal
@@ -238,7 +238,10 @@ fn is_logical(code: &Code<'_>) -> bool {
         Code::One(_, form, _) => is_not(*form),
         Code::Two(_, form, _, _) => gives_truth(*form),
         Code::Three(_, form, _, _, _) => matches!(form, ThreeForm::If),
-        Code::List(_, form, _) => matches!(form, ListForm::Conjunction | ListForm::Disjunction),
+        Code::List(_, form, _) => matches!(
+            form,
+            ListForm::Conjunction | ListForm::Disjunction | ListForm::Cases
+        ),
         Code::Binder(_, form, _, _) => matches!(form, BinderForm::ForAll | BinderForm::ForSome),
         Code::Let(_, _, _, _) => true,
         _ => false,
@@ -260,7 +263,10 @@ fn has_membership_test(code: &Code<'_>) -> bool {
         Code::One(_, form, _) => matches!(form, OneForm::Power | OneForm::Sequences),
         Code::Two(_, form, _, _) => has_membership_test_of_two(*form),
         Code::Three(_, form, _, _, _) => matches!(form, ThreeForm::If),
-        Code::List(_, form, _) => matches!(form, ListForm::Enumerated | ListForm::Product),
+        Code::List(_, form, _) => matches!(
+            form,
+            ListForm::Enumerated | ListForm::Product | ListForm::Cases
+        ),
         Code::Fields(_, form, _) => matches!(form, FieldForm::Records),
         Code::Binder(_, form, _, _) => matches!(form, BinderForm::Filter),
         Code::Let(_, _, _, _) => true,

@@ -17,8 +17,8 @@ use tla_core::{Core, Place};
 use tla_eval::Partial;
 use tla_value::{State, Value};
 
-/// An expression, with the code by which it is evaluated, and the values of closed parts that this uses.
-/// Contracts see the expression as it was given.
+/// An expression, with the code that evaluates it, and the values of the closed parts that the code uses. In contracts,
+/// the original expression.
 #[derive(Drop)]
 pub struct Expression<'m> {
     core: &'m Core,
@@ -53,7 +53,7 @@ impl<'m> Expression<'m> {
         Ok(Expression { core, prepared })
     }
 
-    /// An expression that is evaluated by its definition, as often as it is asked for. The only error is that memory ran out.
+    /// An expression that is evaluated by `tla_eval` each time. The only error is that memory ran out.
     pub fn plain(alloc: Global, core: &'m Core) -> Result<Expression<'m>, AllocError>
         ensures { IfOk result (λ e. e ≡ core.now) }
     {
@@ -65,14 +65,14 @@ impl<'m> Expression<'m> {
         Ok(Expression { core, prepared })
     }
 
-    /// The expression as it was given.
+    /// The original expression.
     pub fn core(&self) -> &'m Core
         ensures { result.now ≡ self.now }
     {
         self.core
     }
 
-    /// The value of the expression, if it was found. `bound` has the values of the bound names, the
+    /// The value of the expression, or none if the evaluation gave up. `bound` has the values of the bound names, the
     /// outermost first.
     pub fn value<'x>(
         &'x self,
@@ -101,7 +101,7 @@ impl<'m> Expression<'m> {
         }
     }
 
-    /// Whether the expression is TRUE or FALSE, if it was found.
+    /// Whether the expression is TRUE, or none if the evaluation gave up.
     pub fn truth<'x>(
         &'x self,
         alloc: Global,
@@ -127,7 +127,7 @@ impl<'m> Expression<'m> {
         truth(alloc, &self.prepared.code, environment).ok()
     }
 
-    /// Whether a value is a member of the expression, if it was found.
+    /// Whether a value is a member of the expression, or none if the evaluation gave up.
     pub fn has<'x>(
         &'x self,
         alloc: Global,
@@ -153,8 +153,8 @@ impl<'m> Expression<'m> {
         has(alloc, &self.prepared.code, member, environment).ok()
     }
 
-    /// The members of the set that the expression is, rising, if they were found. The set of a range is
-    /// not made.
+    /// The members of the set that the expression denotes, in rising order, or none if the evaluation gave up. A range
+    /// is not built.
     pub fn elements<'x>(
         &'x self,
         alloc: Global,

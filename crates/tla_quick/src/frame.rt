@@ -1,4 +1,4 @@
-//! What is around an expression: the values of the bound names, and the definitions.
+//! The frames of an environment: the values of the bound names, and the definitions.
 ghost use Rattle.std.specs.Prelude.{◌≡◌, [], Ok, Some, IfSome, slice_get};
 ghost use Rattle.tla_value.specs.Tree.{Tree};
 ghost use Rattle.tla_value.specs.TreeOf.{tree_of};
@@ -18,7 +18,7 @@ pub(crate) enum Frame<'m, 'a> {
     Outer(&'a Vec<Constant<'m>>),
     One(&'a Frame<'m, 'a>, usize, &'a Value),
     Many(&'a Frame<'m, 'a>, usize, &'a [Value]),
-    /// The number of a definition, the number of names bound outside it, and its value, if known.
+    /// The number of a definition, the number of names bound outside it, its code, and its value, if known.
     Defined(&'a Frame<'m, 'a>, usize, usize, &'a Code<'m>, Option<&'a Value>),
 }
 
@@ -55,7 +55,7 @@ pub(crate) struct Found<'a> {
     pub(crate) value: Option<&'a Value>,
 }
 
-/// The value of the closed part with a number.
+/// The value of closed part `number`.
 fn kept_value<'m: 'a, 'a>(constants: &'a Vec<Constant<'m>>, number: usize) -> Option<&'a Value>
     ensures { (frame : Frame) (s : Present) (t : Next)
         → bound_of frame ≡ []
@@ -110,14 +110,14 @@ pub(crate) fn definition<'m: 'a, 'a>(frame: &'a Frame<'m, 'a>, number: usize) ->
     }
 }
 
-/// `None`, with the clause that it claims nothing of a value. It helps proofs.
+/// `None`, with a clause that helps proofs.
 pub(crate) fn nothing_known<'a>() -> Option<&'a Value>
     ensures { (o : Outcome Tree) → IsKnown result o }
 {
     None
 }
 
-/// `Some(value)`, with the clause that this is the value. It helps proofs.
+/// `Some(value)`, with a clause that helps proofs.
 pub(crate) fn just_known<'a>(value: &'a Value) -> Option<&'a Value>
     ensures { (o : Outcome Tree) → o ≡ Ok (tree_of value.now) → IsKnown result o }
 {

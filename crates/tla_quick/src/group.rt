@@ -22,7 +22,7 @@ use tla_core::{Core, Place};
 use tla_eval::Partial;
 use tla_value::{State, Value};
 
-/// Conditions, and the values that are wanted if all of them are TRUE. Contracts see the two lists.
+/// Conditions, and expressions whose values are needed if all conditions are TRUE. In contracts, the two lists.
 #[derive(Drop)]
 pub struct Group<'m> {
     place: Place,
@@ -47,8 +47,8 @@ impl<'m> Model for Group<'m> {
 }
 
 impl<'m> Group<'m> {
-    /// Some conditions and values under `names` bound names, if they have parts in common. The only error is that memory
-    /// ran out.
+    /// The group of some conditions and values under `names` bound names, or none if they have no parts in common. The
+    /// only error is that memory ran out.
     pub fn new(
         alloc: Global,
         place: Place,
@@ -86,7 +86,7 @@ impl<'m> Group<'m> {
         self.values.as_slice()
     }
 
-    /// None if the evaluation gave up. Else the values, or None if a condition is FALSE.
+    /// None if the evaluation gave up; `Some(None)` if a condition is FALSE; else the values.
     pub fn found<'x>(
         &'x self,
         alloc: Global,
@@ -157,7 +157,7 @@ fn codes_of<'m>(alloc: Global, cores: &[&'m Core]) -> Result<Vec<Code<'m>>, Allo
     Ok(codes)
 }
 
-/// Decodes the value of a group's code: a set means that a condition is FALSE; a sequence has the values.
+/// Decodes the value of a group's code: a set means that a condition is FALSE; a sequence contains the values.
 fn answer_of(alloc: Global, value: &Value) -> Option<Option<Vec<Value>>>
     ensures { IfSome result (λ r.
         IsAnswer (tree_of value.now) (option_map (λ v. map tree_of v.items) r)) }
@@ -169,7 +169,7 @@ fn answer_of(alloc: Global, value: &Value) -> Option<Option<Vec<Value>>>
     }
 }
 
-/// Copies of some values, if there is memory for them.
+/// Copies of some values, or none if memory ran out.
 fn copies(alloc: Global, values: &[Value]) -> Option<Vec<Value>>
     ensures { IfSome result (λ v. v.items ≡ values.now) }
 {

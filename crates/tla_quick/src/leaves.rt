@@ -41,7 +41,6 @@ pub(crate) fn bound_value<'m: 'a, 'a>(
     }
 }
 
-/// The present value of a variable.
 fn now_value<'a>(now: Option<&'a State>, variable: usize) -> Result<&'a Value, Stop>
     ensures { IfOk result (λ v.
         variable_of (option_map (λ s. s.now) now.entry) variable ≡ tree_of v.now) }
@@ -55,7 +54,6 @@ fn now_value<'a>(now: Option<&'a State>, variable: usize) -> Result<&'a Value, S
     }
 }
 
-/// The next value of a variable.
 fn next_value<'a>(next: &'a Partial, variable: usize) -> Result<&'a Value, Stop>
     ensures { IfOk result (λ v. slice_get next.now variable ≡ Some (Some (tree_of v.now))) }
 {
@@ -86,7 +84,7 @@ pub(crate) fn used_value<'m: 'a, 'a>(
     }
 }
 
-/// The value of a definition that was found, if the use is under `by` more names than the definition.
+/// The value of a definition, if the use is under `by` more names than the definition.
 fn known_value<'a>(
     found: Found<'a>,
     number: usize,
@@ -125,7 +123,7 @@ fn bound_values<'m: 'a, 'a>(alloc: Global, frame: &'a Frame<'m, 'a>) -> Result<V
     }
 }
 
-/// The value of an expression, by its definition.
+/// The value of an expression, by `tla_eval`.
 fn eval_value<'m: 'a, 'a>(
     alloc: Global,
     core: &'a Core,
@@ -140,7 +138,7 @@ fn eval_value<'m: 'a, 'a>(
     }
 }
 
-/// Whether a value is a member of an expression, by its definition.
+/// Whether a value is a member of an expression, by `tla_eval`.
 fn eval_has<'m: 'a, 'a>(
     alloc: Global,
     core: &'a Core,

@@ -1,4 +1,4 @@
-//! Evaluates expressions quickly, or gives up: where it answers, the value is that of the definition.
+//! Evaluates expressions quickly, or gives up. A result is the value by the definition of evaluation.
 #![tactic(auto)]
 
 mod constant;

@@ -48,7 +48,7 @@ pub(crate) fn owned(alloc: Global, value: Evaluated<'_>) -> Result<Value, Stop>
     Ok(value.into_value(alloc)?)
 }
 
-/// The truth value that a value is.
+/// A value as a truth value.
 pub(crate) fn known_truth(value: &Value) -> Result<bool, Stop>
     ensures { (o : Outcome Tree) → o ≡ Ok (tree_of value.now) → Answers truth result o }
 {
@@ -68,7 +68,7 @@ pub(crate) fn count_more(count: usize, more: usize) -> Result<usize, Stop>
     }
 }
 
-/// Whether a value is a member of an expression, the value of which is known.
+/// Whether a value is a member of a set.
 pub(crate) fn has_known(set: &Value, value: &Value) -> Result<bool, Stop>
     ensures { (e : Expr) (b : Bound) (s : Present) (t : Next)
         → val e b s t ≡ Ok (tree_of set.now)
@@ -82,7 +82,7 @@ pub(crate) fn has_known(set: &Value, value: &Value) -> Result<bool, Stop>
     }
 }
 
-/// What a form with one operand gives.
+/// The value of a form with one operand.
 pub(crate) fn made_of_one<'m, 'a>(
     alloc: Global,
     place: &Place,
@@ -105,7 +105,7 @@ pub(crate) fn made_of_one<'m, 'a>(
     }
 }
 
-/// What a form with two operands gives that needs both values.
+/// The value of a form with two operands that needs both values.
 pub(crate) fn made_of_two<'a>(
     alloc: Global,
     place: &Place,
@@ -202,7 +202,7 @@ pub(crate) fn compared(
     }
 }
 
-/// Whether an operator that compares two values gives TRUE.
+/// Whether an operator that compares two values is TRUE.
 fn compared_by(place: &Place, operator: Binary, left: &Value, right: &Value) -> Result<bool, Stop>
     ensures { Answers truth result
         (binary_rule (binary_of operator) place.now (tree_of left.now) (tree_of right.now)) }
@@ -241,7 +241,7 @@ fn same_truth(left: &Value, right: &Value) -> Result<bool, Stop>
     }
 }
 
-/// Whether what an operator gives has a value as a member. A range is not made.
+/// Whether a value is a member of the result of an operator. A range is not built.
 pub(crate) fn operator_has(
     alloc: Global,
     place: &Place,
@@ -259,7 +259,7 @@ pub(crate) fn operator_has(
     Ok(two_have(alloc, place, operator, left, right, value)?)
 }
 
-/// The elements of the set that an operator at another place gives. A range isn't made for this.
+/// The elements of the result of the operator at the place `at`. A range is not built.
 pub(crate) fn operator_elements<'a>(
     alloc: Global,
     place: &Place,
@@ -277,7 +277,7 @@ pub(crate) fn operator_elements<'a>(
     Ok(elements_of_two(alloc, place, at, operator, left, right)?)
 }
 
-/// The elements of a value that is a set.
+/// The elements of a set.
 pub(crate) fn known_elements<'a>(place: &Place, set: Evaluated<'a>) -> Result<Elements<'a>, Stop>
     ensures { (e : Expr) (b : Bound) (s : Present) (t : Next)
         → val e b s t ≡ Ok (tree_of_evaluated set.entry)
@@ -286,7 +286,7 @@ pub(crate) fn known_elements<'a>(place: &Place, set: Evaluated<'a>) -> Result<El
     Ok(members_of(place, set)?)
 }
 
-/// A part of a sequence.
+/// `SubSeq`.
 pub(crate) fn made_of_three(
     alloc: Global,
     place: &Place,
@@ -303,7 +303,7 @@ pub(crate) fn made_of_three(
     Ok(sub_seq(alloc, place, first, second, third)?)
 }
 
-/// What a form with a list of operands makes of their values.
+/// The value of a form with a list of operands.
 pub(crate) fn made_of_list(
     alloc: Global,
     place: &Place,
@@ -321,7 +321,7 @@ pub(crate) fn made_of_list(
     }
 }
 
-/// The tuples with one part of each value.
+/// `S \X T ..`.
 pub(crate) fn made_product(
     alloc: Global,
     place: &Place,
@@ -357,7 +357,7 @@ pub(crate) fn set_of(alloc: Global, place: &Place, values: Vec<Value>) -> Result
     Ok(made_set(place, SetValue::from_values(alloc, values))?)
 }
 
-/// The element with a number, as a value of its own.
+/// A copy of the element at an index.
 pub(crate) fn chosen<'a>(
     alloc: Global,
     elements: &'a Elements<'a>,
@@ -371,7 +371,7 @@ pub(crate) fn chosen<'a>(
     Ok(chosen_at(alloc, elements, number)?)
 }
 
-/// Adds the element with a number at the end, if it is to be kept.
+/// Appends a copy of the element at an index, if it is to be kept.
 pub(crate) fn keep<'a>(
     alloc: Global,
     kept: &mut Vec<Value>,
@@ -390,7 +390,7 @@ pub(crate) fn keep<'a>(
     Ok(keep_at(alloc, kept, elements, number, keep)?)
 }
 
-/// The members of a value that is a set.
+/// The members of a set.
 #[tactic(auto, using(tla_operators::proofs::Known::as_set_known))]
 pub(crate) fn known_members(set: &Value) -> Result<&[Value], Stop>
     ensures { (place : AnyPlace)
@@ -431,7 +431,7 @@ pub(crate) fn owned_function(function: FunValue) -> Value
     Value::Fun(function)
 }
 
-/// The function that a call made.
+/// The function as a value.
 pub(crate) fn made_function(
     place: &Place,
     made: Result<FunValue, ValueError>,
@@ -443,7 +443,7 @@ pub(crate) fn made_function(
     Ok(made_fun(place, made)?)
 }
 
-/// Elements, as values of their own.
+/// The elements by value.
 pub(crate) fn all_values(alloc: Global, elements: Elements<'_>) -> Result<Vec<Value>, Stop>
     ensures { IfOk result (λ v. map tree_of v.items ≡ elements_of elements.entry) }
 {

@@ -16,14 +16,12 @@ use tla_code::Code;
 use tla_sets::fields::field_in;
 use tla_value::{Arguments, FunValue, Text, Value};
 
-/// Whether two names are the same.
 fn is_same_name(left: &Text, right: &Text) -> bool
     ensures { result ≡ tree_eq (text left.now) (text right.now) }
 {
     left.as_str().cmp(&right.as_str()).is_eq()
 }
 
-/// Whether a name is the name of one of some fields.
 fn is_name_of<'m>(name: &Text, fields: &[(&'m Text, Code<'m>)]) -> bool
     ensures { result ≡ is_member (text name.now) (names_in fields.now) }
 {
@@ -35,7 +33,6 @@ fn is_name_of<'m>(name: &Text, fields: &[(&'m Text, Code<'m>)]) -> bool
     false
 }
 
-/// Whether a function has each field.
 fn has_fields<'m>(function: &FunValue, fields: &[(&'m Text, Code<'m>)]) -> bool
     ensures { result ≡ list_all (λ k. is_member k (arguments function.now)) (names_in fields.now) }
 {
@@ -69,7 +66,7 @@ fn are_fields<'m>(values: &[Value], fields: &[(&'m Text, Code<'m>)]) -> bool
     true
 }
 
-/// Whether the arguments of a function are just the names of some fields.
+/// Whether the arguments of a function are exactly the names of some fields.
 fn has_names<'m>(function: &FunValue, fields: &[(&'m Text, Code<'m>)]) -> bool
     ensures { result
         ≡ tree_eq (set (trees (arguments function.now)))
@@ -82,7 +79,7 @@ fn has_names<'m>(function: &FunValue, fields: &[(&'m Text, Code<'m>)]) -> bool
     }
 }
 
-/// The same, of the fields of an expression.
+/// The same, for the fields of an expression.
 pub(crate) fn has_just<'m>(function: &FunValue, fields: &[(&'m Text, Code<'m>)]) -> bool
     ensures { (scope : Scope)
         → result

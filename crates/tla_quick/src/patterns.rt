@@ -1,4 +1,4 @@
-//! Elements that are replaced by their items.
+//! Tuple patterns: elements are replaced by their items.
 ghost use Rattle.std.specs.Prelude.{map};
 ghost use Rattle.tla_value.specs.TreeOf.{tree_of};
 ghost use Rattle.tla_core.specs.declared.fault.Place.{Place};
@@ -39,7 +39,7 @@ fn try_all(count: usize, elements: &[Value]) -> Result<(), Stop>
     Ok(())
 }
 
-/// Tries each element of a value that is a set.
+/// If the value is a set, checks that each element is a sequence of `count` items.
 pub(crate) fn try_set(count: usize, value: &Value) -> Result<(), Stop>
     ensures { (p : Place)
         → Answers (λ u. tree_of value.now) result (tried_set p count (tree_of value.now)) }

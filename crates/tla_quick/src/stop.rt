@@ -3,7 +3,7 @@
 use std::alloc::{AllocError, AllocFailed};
 use tla_operators::fault_ref::FaultRef;
 
-/// Why there is no answer. `Needed(n)`: definition n must be evaluated first.
+/// Why there is no result. `Needed(n)`: definition n must be evaluated first.
 #[derive(Clone, Copy)]
 pub(crate) enum Stop {
     GaveUp,

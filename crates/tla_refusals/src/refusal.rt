@@ -23,7 +23,7 @@ use tla_report::{Refusal, RefusalCode, refusal_code_text};
 use tla_syntax_errors::{left_out, precedence, unexpected};
 use tla_tree::Unit;
 
-/// A refusal of a code, with the name that it carries, or no text.
+/// A refusal: its code, place and name; the name is empty if it has none.
 #[derive(Clone, Copy)]
 struct Refused<'a> {
     source: Source,
@@ -47,7 +47,7 @@ pub fn explain_refusal(output: &mut Output, sources: &Sources<'_>, refusal: &Ref
     put_more(output, sources, &tokens, refused, &finding);
 }
 
-/// Finds what is wrong at a refusal, and what helps.
+/// Finds the cause of a refusal, and what helps.
 fn finding_of(
     alloc: Global,
     sources: &Sources<'_>,
@@ -62,7 +62,7 @@ fn finding_of(
     finding
 }
 
-/// Adds what else is certainly wrong: unknown names, and misspelt statements.
+/// Adds further certain errors: unknown names and misspelt statements.
 fn put_more(
     output: &mut Output,
     sources: &Sources<'_>,
@@ -114,7 +114,7 @@ fn put_names(output: &mut Output, sources: &Sources<'_>, spot: &Spot<'_>, refuse
     }
 }
 
-/// The words of a token and of those at places. The only error is out of memory.
+/// The texts of a token and of those at some places. The only error is that memory ran out.
 fn words_at<'a>(
     alloc: Global,
     spot: &Spot<'a>,
@@ -130,7 +130,7 @@ fn words_at<'a>(
     Ok(words)
 }
 
-/// Adds the names in statements of the configuration that are unknown, but for those that were reported.
+/// Adds the unknown names in statements of the configuration, except those that were reported.
 fn put_statements(
     output: &mut Output,
     sources: &Sources<'_>,
@@ -151,7 +151,7 @@ fn put_statements(
     );
 }
 
-/// Adds the other misspelt statements, if one is at the place of what was reported.
+/// Adds the other misspelt statements, if one is at the place of the reported error.
 fn put_misspelt(output: &mut Output, sources: &Sources<'_>, tokens: &[Token], first: Place) {
     let units = units_of(output.alloc(), sources.module);
     let places = misspelt_beside(output.alloc(), sources, tokens, &units, first);
@@ -160,7 +160,8 @@ fn put_misspelt(output: &mut Output, sources: &Sources<'_>, tokens: &[Token], fi
     put_of_configuration(output, sources, tokens, code, places, Some(first));
 }
 
-/// Where misspelt statements are, with these units, if one is at a place. The only error is out of memory.
+/// The places of misspelt statements, given the units of the module, if one is at this place. The only error is that
+/// memory ran out.
 fn misspelt_beside(
     alloc: Global,
     sources: &Sources<'_>,
@@ -183,7 +184,7 @@ fn misspelt_beside(
     }
 }
 
-/// Adds what is found about places of the configuration, but for the one that was reported first.
+/// Adds the errors at places of the configuration, except the one that was reported first.
 fn put_of_configuration(
     output: &mut Output,
     sources: &Sources<'_>,
@@ -209,7 +210,7 @@ fn put_of_configuration(
     }
 }
 
-/// Adds what is found about refusals at places, each place once, but for the one that was reported first.
+/// Adds the errors at some places, each place once, except the one that was reported first.
 fn put_each(
     output: &mut Output,
     sources: &Sources<'_>,
@@ -247,7 +248,7 @@ fn refused_at<'a>(
     })
 }
 
-/// The name that a refusal carries, or no text.
+/// The name of a refusal, or the empty text.
 fn name_of(refusal: &Refusal) -> &str {
     match &refusal.name {
         Some(name) => str::from_utf8(name.as_bytes()).unwrap_or(""),
@@ -255,7 +256,7 @@ fn name_of(refusal: &Refusal) -> &str {
     }
 }
 
-/// Adds what was found: the place, what is wrong there, the line, the other place, and what helps.
+/// Adds a finding: the place, what is wrong there, the line, the other place, and what helps.
 fn put(output: &mut Output, sources: &Sources<'_>, refused: Refused<'_>, finding: &Finding) {
     let code = refusal_code_text(refused.code);
     let place = core_place(finding.place);
@@ -306,7 +307,7 @@ fn find_in_module(
     }
 }
 
-/// Finds what is wrong with a name or a level, by what the units of the module bring in.
+/// Finds what is wrong with a name or a level, by the names that the units of the module introduce.
 fn find_by_units(
     finding: &mut Finding,
     sources: &Sources<'_>,
@@ -366,7 +367,7 @@ fn find_level(
     levels::find(finding, sources, spot, units, &definitions, statements);
 }
 
-/// Says how a constant gets a value, or one with parameters its meaning.
+/// Says how to assign a value to a constant, or a definition to one with parameters.
 fn hint_value(finding: &mut Finding, spot: &Spot<'_>) {
     let name = spot.word(spot.at);
     if spot.ahead(1) == Some(Kind::LeftParen) {
@@ -419,7 +420,7 @@ fn find_in_configuration(
     drop(units);
 }
 
-/// The units of a module; none where its text is refused or memory ran out.
+/// The units of a module; none if its text is refused or memory ran out.
 fn units_of(alloc: Global, text: &[u8]) -> Vec<Unit> {
     let tokens = tokens_of(alloc, text, Source::Module);
     match parse_module(alloc, text, &tokens) {
@@ -475,7 +476,7 @@ fn find_at(
     }
 }
 
-/// Finds what is wrong where a configuration ends, or where it can't be read.
+/// Finds what is wrong at the end of a configuration, or where it can't be read.
 fn find_at_end(finding: &mut Finding, spot: &Spot<'_>, known: &[Known<'_>], refused: Refused<'_>) {
     match refused.code {
         RefusalCode::BehaviourCount => find_behaviour(finding, None, spot),
@@ -487,7 +488,7 @@ fn find_at_end(finding: &mut Finding, spot: &Spot<'_>, known: &[Known<'_>], refu
     }
 }
 
-/// Finds what a specification lacks.
+/// Finds what is wrong with the formula of SPECIFICATION.
 fn find_specification(
     finding: &mut Finding,
     sources: &Sources<'_>,

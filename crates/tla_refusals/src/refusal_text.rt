@@ -1,8 +1,8 @@
-//! What refusals are called.
+//! The titles of refusals.
 
 use tla_report::RefusalCode;
 
-/// What a refusal is called; the name that it carries follows.
+/// The title of a refusal, which its name follows.
 pub(crate) fn title_of(code: RefusalCode) -> &'static str {
     match code {
         RefusalCode::NotUtf8 => "not UTF-8",

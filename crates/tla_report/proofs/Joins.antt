@@ -1,4 +1,4 @@
--- Lines whose texts go out in several calls.
+-- Lines whose texts are written in several calls.
 use Rattle.std.proofs.Common.{◌≡◌, ℕ, List, [], ◌++◌, append_assoc, append-nil}
 
 pub refusal_joins : (source refused code place end feed : List ℕ)

@@ -13,7 +13,7 @@ pieces_more f (x ∷ xs) zero d l = append-nil (f x)
 pieces_more f (x ∷ xs) (suc i) d l =
     ap (λ t. f x ++ t) (pieces_more f xs i d (omega arith)) ∙ sym (append_assoc (f x) (flat_map f (take i xs)) (f (get_or xs i d)))
 
--- what follows the first i
+-- the rest after the first i
 pub pieces_rest : {A : Type 0} (f : A → List ℕ) (xs : List A) (i : ℕ) → (after : List ℕ) × (flat_map f xs ≡ flat_map f (take i xs) ++ after)
 pieces_rest f xs zero = (flat_map f xs, refl)
 pieces_rest f [] (suc i) = ([], refl)
@@ -54,7 +54,7 @@ trace_rest ns first [] (suc i) = ([], refl)
 trace_rest ns first (s ∷ ss) (suc i) = let h = trace_rest ns (first + 1) ss i in
     (h.0, ap (λ t. state_lines ns first s ++ t) h.1 ∙ sym (append_assoc (state_lines ns first s) (trace_lines ns (first + 1) (take i ss)) h.0))
 
--- a state of a trace whose states are whole
+-- a state of a trace whose states are complete
 pub whole_at : (variables : ℕ) (ss : List (List Tree)) (i : ℕ) (d : List Tree) → AreWhole variables ss → i < length ss → length (get_or ss i d) ≡ variables
 whole_at variables [] i d whole l = absurd (omega arith)
 whole_at variables (s ∷ ss) zero d whole l = whole.0

@@ -1,4 +1,4 @@
--- The first two bytes of a report tell its status.
+-- The first two bytes of a report determine its status.
 use Rattle.std.proofs.Common.{◌≡◌, ◌↔◌, ℕ, List, [], ◌∷◌, ◌++◌, ◌==◌, if◌then◌else◌, refl, sym, ap, ◌∙◌, arith}
 use Rattle.std.specs.Prelude.{codes}
 use Rattle.tla_config.specs.declared.error.Source.{Source}

@@ -1,9 +1,9 @@
--- The codes of refusals. They are this project's own choice.
+-- The codes of refusals. (This project's own choice.)
 use Rattle.std.specs.Prelude.{ℕ, Bool, true, false, List, codes}
 use Rattle.tla_report.specs.declared.checked.RefusalCode.{RefusalCode}
 use Rattle.tla_report.specs.declared.checked.RefusalCode.TheVariants as refusal
 
--- the codes whose refusal names something
+-- the codes of refusals that contain a name
 abbrev pub is_named_code : RefusalCode → Bool
 is_named_code refusal.FormLeftOut = true
 is_named_code refusal.UnknownName = true
@@ -14,8 +14,8 @@ is_named_code refusal.CircularReplacement = true
 is_named_code refusal.StatementLeftOut = true
 is_named_code _ = false
 
--- The codes whose refusal is the first in a fixed order of steps: those of tokens and, of module and configuration together,
--- those of names, of the items of CONSTANT and of the behaviour.
+-- The codes of refusals that are the first in a fixed order of steps: those of tokens and, for module and configuration
+-- together, those of names, of the items of CONSTANT and of the behaviour.
 abbrev pub is_first_code : RefusalCode → Bool
 is_first_code refusal.NotUtf8 = true
 is_first_code refusal.UnknownCharacter = true

@@ -1,4 +1,4 @@
--- The report of a check: its bytes, line by line. The texts are this project's own choice.
+-- The report of a check: its bytes, line by line. (The texts are this project's own choice.)
 use Rattle.std.specs.Prelude.{ℕ, ◌+◌, List, [], ◌∷◌, ◌++◌, codes, Option, Some, None}
 use Rattle.std.specs.List.{concat}
 use Rattle.std.specs.Fmt.{decimal}
@@ -22,14 +22,14 @@ use Rattle.tla_report.specs.declared.checked.Checked.TheVariants.{Answered, Refu
 use Rattle.tla_report.specs.Names.{name_at}
 use Rattle.tla_report.specs.Codes.{refusal_code}
 
--- texts one after another, and a line feed
+-- texts concatenated, and a line feed
 abbrev pub line : List (List ℕ) → List ℕ
 line texts = concat texts ++ codes "\n"
 
 abbrev pub place_text : Place → List ℕ
 place_text p = concat (codes " at line " ∷ decimal p.line ∷ codes ", column " ∷ decimal p.column ∷ [])
 
--- what a fault is about: a variable, or the expression at a place
+-- the variable or the place of a fault
 abbrev pub site_text : List (List ℕ) → Option Place → Option ℕ → List ℕ
 site_text variables place (Some i) = concat (codes " for variable " ∷ name_at variables i ∷ [])
 site_text variables (Some p) None = place_text p
@@ -50,7 +50,7 @@ abbrev pub fault_line : List (List ℕ) → List (List ℕ) → List (List ℕ) 
 fault_line variables invariants constraints fault part =
     concat (codes "Fault " ∷ code_text fault.code ∷ site_text variables fault.place fault.variable ∷ []) ++ part_line invariants constraints part
 
--- what the search found, given the names of the variables, of the invariants and of the constraints, and the limit
+-- the answer of the search, given the names of the variables, of the invariants and of the constraints, and the limit
 abbrev pub first_line : List (List ℕ) → List (List ℕ) → List (List ℕ) → ℕ → Answer → List ℕ
 first_line variables invariants constraints limit (NoError counts) = line (codes "No error." ∷ [])
 first_line variables invariants constraints limit (InvariantFalse i trace counts) = line (codes "Invariant " ∷ name_at invariants i ∷ codes " is false." ∷ [])
@@ -71,7 +71,7 @@ value_lines (variable ∷ variables) (value ∷ values) = value_line variable va
 abbrev pub state_lines : List (List ℕ) → ℕ → List Tree → List ℕ
 state_lines variables number state = line (codes "State " ∷ decimal number ∷ codes ":" ∷ []) ++ value_lines variables state
 
--- the states of a trace, numbered from a number on
+-- the states of a trace, numbered from `number` on
 abbrev pub trace_lines : List (List ℕ) → ℕ → List (List Tree) → List ℕ
 trace_lines variables number [] = []
 trace_lines variables number (state ∷ states) = state_lines variables number state ++ trace_lines variables (number + 1) states
@@ -87,7 +87,7 @@ abbrev pub source_text : Source → List ℕ
 source_text Module = codes "Module"
 source_text Configuration = codes "Configuration"
 
--- the end of a refusal: the name that it carries, if any
+-- the end of a refusal: its name, if it has one
 abbrev pub ending : Option (List ℕ) → List ℕ
 ending None = codes "."
 ending (Some name) = concat (codes ": " ∷ name ∷ codes "." ∷ [])

@@ -1,4 +1,4 @@
--- The status with which the program ends. The numbers are this project's own choice.
+-- The exit status. (The numbers are this project's own choice.)
 use Rattle.std.specs.Prelude.{ℕ}
 use Rattle.tla_verdict.specs.declared.answer.Answer.{Answer}
 use Rattle.tla_verdict.specs.declared.answer.Answer.TheVariants.{NoError, InvariantFalse, Deadlock, Faulted, AssumptionFalse, Limit}

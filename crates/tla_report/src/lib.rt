@@ -1,4 +1,4 @@
-//! The report of a check: the answer of a check, the bytes of its report, and the exit status.
+//! The result of a check, the bytes of its report, and the exit status.
 #![tactic(auto)]
 
 mod checked;

@@ -25,7 +25,7 @@ pub struct WriteFault {
     pub written: u64,
 }
 
-/// Writes the report, in blocks. The first write that fails or takes no byte ends it. Takes no memory.
+/// Writes the report, in blocks. The first write that fails or takes no byte ends it with an error. Allocates nothing.
 pub fn write_report<W: Write>(checked: &Checked, out: &mut W) -> Result<(), WriteFault>
     ensures ok { OnOk result
         (Appends (W.contents out.old) (W.contents out.new) (report checked.now)) }
@@ -123,7 +123,7 @@ fn put_fault<W: Write>(
     put_part(part, answered, out, written)
 }
 
-// Writes what a fault is about.
+// Writes the variable or the place of a fault.
 fn put_site<W: Write>(
     fault: &Fault,
     variables: &Names,
@@ -365,7 +365,7 @@ fn source_name(source: Source) -> &'static str
     }
 }
 
-/// A code as the report of a refusal has it.
+/// The text of a code in the report of a refusal.
 pub fn refusal_code_text(code: RefusalCode) -> &'static str
     ensures { result.now ≡ refusal_code code }
 {

@@ -1,4 +1,4 @@
-//! The status with which the program ends.
+//! The exit status.
 ghost use Rattle.std.specs.Prelude.{◌≡◌};
 ghost use Rattle.tla_report.specs.Status.{answer_status, status_of};
 
@@ -6,7 +6,7 @@ use crate::checked::Checked;
 use tla_verdict::Answer;
 
 impl Checked {
-    /// The status with which the program ends.
+    /// The exit status.
     pub fn status(&self) -> u8
         ensures { result ≡ status_of self.now }
     {

@@ -10,7 +10,7 @@ use Rattle.tla_value.specs.TreeOf.{tree_of}
 use Rattle.tla_value.specs.declared.value.Value.{Value}
 use Rattle.tla_value.specs.Choices.{choices}
 
--- ---- a place in two lists
+-- ---- an index in a concatenation
 get_first : {A : Type 0} (xs ys : List A) (i : ℕ) → i < length xs → slice_get (xs ++ ys) i ≡ slice_get xs i
 get_first [] ys i h = absurd (omega arith)
 get_first (x ∷ xs) ys zero h = refl

@@ -96,7 +96,7 @@ tuple_arguments : (n : ℕ) (cs : List (List Tree)) → (n ≡ 1 → ⊥) → Al
 tuple_arguments n [] h all = refl
 tuple_arguments n (c ∷ cs) h all = (λ i. tuple_argument c (λ e. h (sym all.0 ∙ e)) i ∷ tuple_arguments n cs h all.1 i)
 
--- how long the arguments are, against the limit
+-- the length of the arguments, and the limit
 names_or_none : (n : ℕ) (cs : List (List Tree)) → AllByRecursion (λ c. length c ≡ n) cs → most_pairs (map sequence cs) ≤ n → most_pairs (map sequence cs) ≤ names_in cs
 names_or_none n [] all h = omega arith
 names_or_none n (c ∷ cs) all h = omega (arith, all.0)
@@ -156,7 +156,7 @@ module _ (p : Place) (lists : List (List Tree)) (vs : List Tree) (several : leng
   on_tuples : function_on p (choices lists) vs ≡ within p (max (length (fun_of (zip (tuples_of lists) vs))) (names_in (choices lists))) (deepest_pair (pairs (fun_of (zip (tuples_of lists) vs)))) (fun (pairs (fun_of (zip (tuples_of lists) vs))))
   on_tuples = ap (λ us. within p (max (length (fun_of (zip us vs))) (names_in (choices lists))) (deepest_pair (pairs (fun_of (zip us vs)))) (fun (pairs (fun_of (zip us vs))))) (tuple_arguments (length lists) (choices lists) several (long-choices lists))
 
-  -- with the tuples that the call made
+  -- with the tuples that the call built
   pub domain_made : (dom : List Tree) → make_function_set p (tuples_of lists) ≡ Ok (set (trees dom)) → function_on p (choices lists) vs ≡ make_fun p (zip dom vs)
   domain_made dom h =
       let ts = tuples_of lists in

@@ -1,4 +1,4 @@
--- Lists that are gone over one by one.
+-- Loops over lists.
 use Rattle.std.proofs.Common.{◌≡◌, ℕ, zero, suc, ◌+◌, ◌<◌, ◌≤◌, List, [], ◌∷◌, ◌++◌, length, map, drop, get_or, Option, Some, None, Ok, Err, refl, sym, ap, ◌∙◌, add-one, append_assoc, arith}
 use Rattle.std.specs.Prelude.{slice_get}
 use Rattle.std.proofs.lemmas.List.{length-map}
@@ -47,7 +47,7 @@ value_there [] i v l e = absurd (omega arith)
 value_there (w ∷ vs) zero v l e = ap (λ u. Some (tree_of u)) e
 value_there (w ∷ vs) (suc i) v l e = value_there vs i v (omega arith) e
 
--- ---- what is listed, one by one
+-- ---- listed numbers, one by one
 behind : (old : List Tree) (x : Tree) (rest : List Tree) → old ++ x ∷ rest ≡ (old ++ x ∷ []) ++ rest
 behind old x rest = simp append_assoc
 

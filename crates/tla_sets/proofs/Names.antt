@@ -37,7 +37,7 @@ keys-zip (f ∷ fs) (l ∷ ls) h = ap (λ ks. keys_of ((f.0, l) ∷ []) ++ ks) (
     suc-same : (m n : ℕ) → suc m ≡ suc n → m ≡ n
     suc-same m n h = omega arith
 
--- a rising list has just the members of another where each stands in the other
+-- a rising list has the same members as another if each is in the other
 pub same_domain : (xs ks : List Tree) → IsStrictlySortedBy tree_cmp xs → (list_all (λ a. is_member a ks) xs && list_all (λ k. is_member k xs) ks) ≡ tree_eq (set (trees xs)) (set (trees (set_of ks)))
 same_domain xs ks h = bool-iff _ _ there back
   where
@@ -81,7 +81,7 @@ module _ (test : Tree → Bool) (fields : List (List ℕ × Core)) (i : ℕ) (f 
   pub names_stop : f ≡ get_or fields i f → i < length fields → test (text f.0) ≡ false → list_all test (keys_of (fields_of_cores (drop i fields))) ≡ false
   names_stop e h g = rw (drop-cons fields i f h) (ap (λ b. b && list_all test (keys_of (fields_of_cores (drop (suc i) fields)))) (ap (λ (y : List ℕ × Core). test (text y.0)) (sym e) ∙ g))
 
--- what is no text is no name
+-- a value that is no text is no name
 pub no_name : (v : Value) (fields : List (List ℕ × Core)) → ((s : List ℕ) → v ≡ Text s → ⊥) → is_member (tree_of v) (keys_of (fields_of_cores fields)) ≡ false
 no_name v [] h = refl
 no_name (Truth b) (f ∷ fs) h = no_name (Truth b) fs h
@@ -91,12 +91,12 @@ no_name (Model s) (f ∷ fs) h = no_name (Model s) fs h
 no_name (Set ts) (f ∷ fs) h = no_name (Set ts) fs h
 no_name (Fun ps) (f ∷ fs) h = no_name (Fun ps) fs h
 
--- nor is a number
+-- a number is no name
 pub no_numbers : (n : ℕ) (z : ℤ) (fields : List (List ℕ × Core)) → 0 < n → list_all (λ a. is_member a (keys_of (fields_of_cores fields))) (counted_up n z) ≡ false
 no_numbers zero z fields l = absurd (omega arith)
 no_numbers (suc n) z fields l = ap (λ b. b && list_all (λ a. is_member a (keys_of (fields_of_cores fields))) (counted_up n (z +ℤ pos 1))) (no_name (Int z) fields (λ s e. cc))
 
--- the sets beside the names of fields have these names
+-- the sets of fields have these names
 pub named_long : (p : Place) (fields : List (List ℕ × Core)) (vs : List Evaluated) (sets : List (List ℕ × List Tree)) → length fields ≡ length vs → named_sets p (fields_of_cores fields) (map tree_of_evaluated vs) ≡ Ok sets → keys_of sets ≡ keys_of (fields_of_cores fields)
 named_long p fields vs sets long h =
     let r = bind-ok (each (as_set p) (map tree_of_evaluated vs)) (λ lists. Ok (zip (names_of (fields_of_cores fields)) lists)) sets h in

@@ -1,4 +1,4 @@
--- Ranges: what stands at a place, who is a member, and where their set can be made.
+-- Ranges: their items, their members, and when their set is within the limits.
 use Rattle.std.proofs.Common.{◌≡◌, ℕ, zero, suc, ◌<◌, ◌≤◌, ℤ, pos, ◌+ℤ◌, ◌-ℤ◌, ◌<ℤ◌, ◌≤ℤ◌, unsigned_abs, Bool, true, false, ◌||◌, List, length, Some, Ok, ◌⊎◌, ⊎_elim, refl, sym, ap, ◌∙◌, arith, Ordering, Equal, Greater}
 use Rattle.std.specs.Prelude.{slice_get}
 use Rattle.std.specs.Ordering.{int_cmp, is_eq}
@@ -20,7 +20,7 @@ use Rattle.tla_operators.proofs.Made.{within_ok, within_many}
 up_or_down : (a b : ℤ) → (a ≤ℤ b) ⊎ (b <ℤ a)
 up_or_down a b = grind (arith, ints)
 
--- ---- how many there are, and what stands at a place
+-- ---- their number, and the item at an index
 pub range_empty : (a b : ℤ) → b <ℤ a → length (range_of a b) ≡ 0
 range_empty a b h = ap length (range_none a b h)
 
@@ -70,7 +70,7 @@ number_low v x a b e l = ap (λ u. is_member (tree_of u) (range_of a b)) e ∙ �
 pub number_in : (v : Value) (x a b : ℤ) → v ≡ Value.Int x → a ≤ℤ x → x ≤ℤ b → is_member (tree_of v) (range_of a b) ≡ true
 number_in v x a b e h k = ap (λ u. is_member (tree_of u) (range_of a b)) e ∙ ap (is_member (int x)) (range_is a b (omega (arith, ints))) ∙ counted_in x a (suc (unsigned_abs (b -ℤ a))) h (omega (arith, ints))
 
--- no value of another kind
+-- values of other kinds aren't members
 counted_other : (t : Tree) → ((z : ℤ) → tree_eq t (int z) ≡ false) → (n : ℕ) (z : ℤ) → is_member t (counted_up n z) ≡ false
 counted_other t h zero z = refl
 counted_other t h (suc n) z = ap (λ b. b || is_member t (counted_up n (z +ℤ pos 1))) (h z) ∙ counted_other t h n (z +ℤ pos 1)

@@ -1,4 +1,4 @@
--- Membership in the set of some values, where it is within the limits.
+-- Membership in the set of some values, if that is within the limits.
 use Rattle.std.proofs.Common.{◌≡◌, ℕ, suc, ◌+◌, ◌<◌, ◌≤◌, List, [], ◌∷◌, map, length, drop, get_or, Ok, sym, ap, subst, ◌∙◌, arith, add-one, drop-cons, Less, Equal, Greater}
 use Rattle.std.specs.BTreeSet.{insert_key}
 use Rattle.std.specs.Ordering.{match_ordering}
@@ -33,7 +33,7 @@ stands_known p vs v few shallow =
     has_known p v (make_set p vs) (set_of vs) (within_ok p (length (set_of vs)) (deepest (trees (set_of vs))) (set (trees (set_of vs))) (omega (arith, different_few vs)) (set_shallow vs shallow))
     ∙ ap (λ b. Ok b) (is_member-set_of vs v)
 
--- one more value that is nested little
+-- one more value that isn't nested too deep
 pub shallow_more : (values : List Evaluated) (i : ℕ) (x : Evaluated) → x ≡ get_or values i x → i < length values → depth (tree_of_evaluated x) < 64
     → deepest (trees (map tree_of_evaluated (drop (i + 1) values))) < 64 → deepest (trees (map tree_of_evaluated (drop i values))) < 64
 shallow_more values i x is h few rest =

@@ -1,4 +1,4 @@
--- Sets that the code goes over, or asks for a member, without making them.
+-- Sets that the code iterates over, or tests for a member, without building them.
 use Rattle.std.specs.Prelude.{Bool, List, map, Result}
 use Rattle.tla_value.specs.Tree.{Tree}
 use Rattle.tla_value.specs.TreeOf.{tree_of}
@@ -11,7 +11,7 @@ use Rattle.tla_operators.specs.Gives.{GivesBy, contains_rule}
 use Rattle.tla_sets.specs.declared.elements.Elements.{Elements}
 use Rattle.tla_sets.specs.declared.elements.Elements.TheVariants.{Lent, Made, Numbers}
 
--- the elements, rising
+-- the elements, in rising order
 abbrev pub elements_of : Elements → List Tree
 elements_of (Lent values) = map tree_of values.now
 elements_of (Made set) = set
@@ -26,7 +26,7 @@ elements_rule p o = do
   x ← o
   as_set p x
 
--- whether it has a value as a member
+-- whether a value is a member of it
 abbrev pub has_rule : Place → Tree → Outcome Tree → Outcome Bool
 has_rule p v o = do
   x ← o

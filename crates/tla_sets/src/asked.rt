@@ -1,4 +1,4 @@
-//! Membership in sets that are only asked for a member: ranges and braces are not made.
+//! Membership in sets that are not built: ranges and sets in braces.
 ghost use Rattle.std.specs.Prelude.{◌≡◌, ◌<◌, ◌≤◌, length, map, true, IfOk, IfErr};
 ghost use Rattle.tla_value.specs.Tree.{trees, depth, deepest};
 ghost use Rattle.tla_value.specs.TreeOf.{tree_of};
@@ -24,7 +24,7 @@ use tla_operators::rules::copied;
 use tla_operators::sets::{contains, made_set};
 use tla_value::{MAX_ELEMENTS, MAX_NESTING, SetValue, Value};
 
-/// Whether what an operator gives has a value as a member. A range is not made.
+/// Whether a value is a member of the result of an operator. A range is not built.
 pub fn two_have<'p>(
     alloc: Global,
     place: &'p Place,
@@ -43,7 +43,7 @@ pub fn two_have<'p>(
     }
 }
 
-/// Whether a value is one of the numbers from one value to another, where their set is within the limits.
+/// Whether a value is in the range from one value to another; a fault if the range exceeds the limits.
 fn range_has<'p>(
     place: &'p Place,
     left: &Value,
@@ -58,7 +58,7 @@ fn range_has<'p>(
     range_between_has(place, low, high, value)
 }
 
-/// Whether a value is one of the numbers from `low` to `high`, where their set is within the limits.
+/// Whether a value is in the range from `low` to `high`; a fault if the range exceeds the limits.
 #[tactic(auto, using(crate::proofs::Known::has_known))]
 fn range_between_has<'p>(
     place: &'p Place,
@@ -97,7 +97,7 @@ fn is_between(value: &Value, low: i64, high: i64) -> bool
     }
 }
 
-/// Whether a value is a member of the set of some values. It is made only where it may be beyond the limits.
+/// Whether a value is a member of the set of some values. The set is built only if it may exceed a limit.
 pub fn set_has<'p>(
     alloc: Global,
     place: &'p Place,
@@ -114,7 +114,7 @@ pub fn set_has<'p>(
     }
 }
 
-/// Whether the set of some values is surely within the limits.
+/// Whether the set of some values is certainly within the limits.
 fn are_within(values: &[Evaluated<'_>]) -> bool
     ensures few { result ≡ true → length values.now ≤ MAX_ELEMENTS }
     ensures shallow { result ≡ true
@@ -126,7 +126,7 @@ fn are_within(values: &[Evaluated<'_>]) -> bool
     are_shallow(values)
 }
 
-/// Whether none of some values is nested too deep for a member.
+/// Whether no value is nested too deep for a member.
 fn are_shallow(values: &[Evaluated<'_>]) -> bool
     ensures { result ≡ true → deepest (trees (map tree_of_evaluated values.now)) < MAX_NESTING }
 {
@@ -145,7 +145,7 @@ fn nesting_of(value: &Evaluated<'_>) -> u64
     value.value().nesting()
 }
 
-/// Whether a value is one of others.
+/// Whether a value is in a list.
 fn stands_in(values: &[Evaluated<'_>], value: &Value) -> bool
     ensures { result ≡ is_member (tree_of value.now) (map tree_of_evaluated values.now) }
 {
@@ -157,14 +157,12 @@ fn stands_in(values: &[Evaluated<'_>], value: &Value) -> bool
     false
 }
 
-/// Whether two values are the same.
 fn is_value(value: &Value, other: &Evaluated<'_>) -> bool
     ensures { result ≡ tree_eq (tree_of value.now) (tree_of_evaluated other.now) }
 {
     value == other.value()
 }
 
-/// The set of copies of some values.
 fn set_of_copies<'p>(
     alloc: Global,
     place: &'p Place,
@@ -175,7 +173,6 @@ fn set_of_copies<'p>(
     made_set(place, SetValue::from_values(alloc, copies(alloc, values)?))
 }
 
-/// Copies of some values.
 fn copies<'p>(alloc: Global, values: &[Evaluated<'_>]) -> Result<Vec<Value>, FaultRef<'p>>
     ensures ok { IfOk result (λ v. map tree_of v.items ≡ map tree_of_evaluated values.now) }
     ensures err { IfErr result (λ f. f ≡ out_of_memory) }

@@ -21,14 +21,14 @@ use tla_operators::rules::copied;
 use tla_operators::sets::{as_sets, copied_set, members, refused};
 use tla_value::{FunValue, SetValue, Value};
 
-/// The tuples that a function is defined on, or the fault of each function on them.
+/// The domain of the functions on all choices from some sets, or the fault of every such function.
 #[derive(Drop)]
 pub enum Domain<'p> {
     Tuples(SetValue),
     Refused(FaultRef<'p>),
 }
 
-/// The members of some values that are sets.
+/// The members of each of some sets; another value is a fault.
 pub fn lists_of<'p, 'a>(
     alloc: Global,
     place: &'p Place,
@@ -44,14 +44,14 @@ pub fn lists_of<'p, 'a>(
     Ok(lists)
 }
 
-/// The member of a list at a place, where there is one.
+/// The member of a list at an index, if there is one.
 pub fn member_of<'a>(list: &'a [Value], number: usize) -> Option<&'a Value>
     ensures { option_map (λ v. tree_of v.now) result ≡ slice_get (map tree_of list.now) number }
 {
     list.get(number)
 }
 
-/// The member of a list at a number, modulo the list's length.
+/// The member of a list at an index modulo the list's length.
 fn member_at(list: &[Value], number: usize) -> &Value
     requires { 0 < length list.now }
     ensures { result.now ≡ slice_index_or list.now (number % length list.now) result.now }
@@ -59,7 +59,7 @@ fn member_at(list: &[Value], number: usize) -> &Value
     &list[number % list.len()]
 }
 
-/// The choice with a number of one member of each list, the first list slowest; none where there are fewer choices.
+/// Choice `number` of one member of each list, the first list varying slowest; none if there are fewer choices.
 pub fn choice_at<'p>(
     alloc: Global,
     lists: &[&[Value]],
@@ -127,7 +127,7 @@ pub fn function_on<'p>(
     function_with(alloc, place, &domain, values)
 }
 
-/// What a function on all choices from some sets is defined on, or the fault of every such function.
+/// The domain of the functions on all choices from some sets, or the fault of every such function.
 pub fn domain_of<'p>(
     alloc: Global,
     place: &'p Place,

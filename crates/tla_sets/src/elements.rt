@@ -1,4 +1,4 @@
-//! The elements of a set that is only visited. A range is not built.
+//! The elements of a set that is only iterated over. A range is not built.
 ghost use Rattle.std.specs.Prelude.{◌≡◌, ◌<◌, ◌≤◌, ◌++◌, Ok, Some, length, map, cond, slice_get, IfOk, IfErr, OnOk};
 ghost use Rattle.std.specs.Option.{option_to_list};
 ghost use Rattle.tla_value.specs.Tree.{set, trees};
@@ -25,7 +25,7 @@ use tla_operators::rules::copied;
 use tla_operators::sets::members;
 use tla_value::{MAX_ELEMENTS, SetValue, Value};
 
-/// The elements of a set, rising: borrowed members, those of a set that was made, or the numbers from one to another.
+/// The elements of a set, in rising order: borrowed members, those of an owned set, or a range of numbers.
 #[derive(Drop)]
 pub enum Elements<'a> {
     Lent(&'a [Value]),
@@ -33,7 +33,7 @@ pub enum Elements<'a> {
     Numbers(Span),
 }
 
-/// The members of a value that is a set.
+/// The members of a set; another value is a fault.
 pub fn members_of<'p, 'a>(
     place: &'p Place,
     set: Evaluated<'a>,
@@ -46,7 +46,7 @@ pub fn members_of<'p, 'a>(
     }
 }
 
-/// The members of a value that is a set, by value.
+/// The members of a set, by value; another value is a fault.
 #[tactic(auto, using(tla_operators::proofs::Known::as_set_known))]
 fn owned_members<'p, 'a>(place: &'p Place, set: Value) -> Result<Elements<'a>, FaultRef<'p>>
     ensures { GivesElements result (as_set place.now (tree_of set)) }
@@ -57,7 +57,8 @@ fn owned_members<'p, 'a>(place: &'p Place, set: Value) -> Result<Elements<'a>, F
     }
 }
 
-/// The elements of what an operator at another place gives, which has to be a set. A range is not made.
+/// The elements of the result of the operator at the place `at`. A range is not built. A result that is no set is a
+/// fault at `place`.
 pub fn elements_of_two<'p, 'a>(
     alloc: Global,
     place: &'p Place,
@@ -76,7 +77,7 @@ pub fn elements_of_two<'p, 'a>(
     }
 }
 
-/// The numbers from one value to another, where their set is within the limits.
+/// The range from one value to another; a fault if it exceeds the limits.
 fn numbers<'p, 'a>(
     place: &'p Place,
     at: &'p Place,
@@ -91,7 +92,7 @@ fn numbers<'p, 'a>(
     numbers_between(place, at, low, high)
 }
 
-/// The numbers from `low` to `high`, where their set is within the limits.
+/// The range from `low` to `high`; a fault if it exceeds the limits.
 #[tactic(auto, using(crate::proofs::Known::elements_known))]
 fn numbers_between<'p, 'a>(
     place: &'p Place,
@@ -106,7 +107,7 @@ fn numbers_between<'p, 'a>(
     Ok(Elements::Numbers(Span::new(low, high)))
 }
 
-/// Whether the set of the numbers from `low` to `high` is within the limits.
+/// A fault if the range from `low` to `high` exceeds the limits.
 pub(crate) fn fits_range(place: &Place, low: i64, high: i64) -> Result<(), FaultRef<'_>>
     ensures gives { GivesBy (λ _. set (trees (range_of low high))) result
         (rising_set place.now (range_of low high)) }
@@ -133,7 +134,7 @@ pub fn count_of(elements: &Elements<'_>) -> usize
     }
 }
 
-/// The element with a number, counted from 0.
+/// The element at an index.
 pub fn element_at<'e>(elements: &'e Elements<'e>, number: usize) -> Evaluated<'e>
     requires { number < length (elements_of elements.now) }
     ensures { Some (tree_of_evaluated result) ≡ slice_get (elements_of elements.now) number }
@@ -154,7 +155,7 @@ fn lent_at<'e>(values: &'e [Value], number: usize) -> Evaluated<'e>
     Evaluated::Borrowed(&values[number])
 }
 
-/// One of some numbers as a value, counted from 0.
+/// The number at an index, as a value.
 fn value_at(span: Span, number: usize) -> Value
     requires { number < length (range_of span.low span.high) }
     ensures { Some (tree_of result) ≡ slice_get (range_of span.low span.high) number }
@@ -162,7 +163,7 @@ fn value_at(span: Span, number: usize) -> Value
     Value::Int(span.number_at(number))
 }
 
-/// The element with a number, as a value of its own.
+/// A copy of the element at an index.
 pub fn chosen_at<'p, 'e>(
     alloc: Global,
     elements: &'e Elements<'e>,
@@ -175,7 +176,7 @@ pub fn chosen_at<'p, 'e>(
     element_at(elements, number).into_value(alloc)
 }
 
-/// Adds the element with a number at the end, if it is to be kept.
+/// Appends a copy of the element at an index, if it is to be kept.
 pub fn keep_at<'p, 'e>(
     alloc: Global,
     kept: &mut Vec<Value>,
@@ -198,7 +199,7 @@ pub fn keep_at<'p, 'e>(
     Ok(())
 }
 
-/// The elements, as values of their own.
+/// The elements by value.
 pub fn into_values<'p>(alloc: Global, elements: Elements<'_>) -> Result<Vec<Value>, FaultRef<'p>>
     ensures { GivesBy (λ v. map tree_of v.items) result (Ok (elements_of elements.entry)) }
 {
@@ -212,7 +213,6 @@ pub fn into_values<'p>(alloc: Global, elements: Elements<'_>) -> Result<Vec<Valu
     }
 }
 
-/// Copies of some values.
 fn copies_of<'p>(alloc: Global, values: &[Value]) -> Result<Vec<Value>, FaultRef<'p>>
     ensures ok { IfOk result (λ v. v.items ≡ values.now) }
     ensures err { IfErr result (λ f. f ≡ out_of_memory) }
@@ -224,7 +224,7 @@ fn copies_of<'p>(alloc: Global, values: &[Value]) -> Result<Vec<Value>, FaultRef
     Ok(copies)
 }
 
-/// Numbers that follow one another, as values.
+/// The numbers of a span, as values.
 fn listed<'p>(alloc: Global, span: Span) -> Result<Vec<Value>, FaultRef<'p>>
     ensures ok { IfOk result (λ v. map tree_of v.items ≡ range_of span.low span.high) }
     ensures err { IfErr result (λ f. f ≡ out_of_memory) }

@@ -20,7 +20,7 @@ use tla_operators::rules::copied_text;
 use tla_operators::sets::{copied_set, made_functions};
 use tla_value::{Arguments, FunValue, SetValue, Text, Value};
 
-/// The records with each field in the value beside it.
+/// `[a : S, ..]`: the records with these fields, each value a member of its field's set.
 pub fn records_with<'p>(
     alloc: Global,
     place: &'p Place,
@@ -39,7 +39,7 @@ pub fn records_with<'p>(
     }
 }
 
-/// The names of some fields, each with the value beside it, which has to be a set.
+/// The names of some fields, each with its value as a set; another value is a fault.
 fn named_sets<'p>(
     alloc: Global,
     place: &'p Place,
@@ -58,14 +58,12 @@ fn named_sets<'p>(
     Ok(sets)
 }
 
-/// Whether two names are the same.
 fn is_same_name(left: &Text, right: &Text) -> bool
     ensures { result ≡ tree_eq (text left.now) (text right.now) }
 {
     left.as_str().cmp(&right.as_str()).is_eq()
 }
 
-/// Whether a name is the name of one of some fields.
 fn is_name_of(name: &Text, fields: &[(Text, Core)]) -> bool
     ensures { result ≡ is_member (text name.now) (keys_of (fields_of_cores fields.now)) }
 {
@@ -89,7 +87,6 @@ fn are_different(fields: &[(Text, Core)]) -> bool
     true
 }
 
-/// Whether an argument is a name.
 fn is_name(argument: &Value, name: &Text) -> bool
     ensures { result ≡ tree_eq (text name.now) (tree_of argument.now) }
 {
@@ -99,7 +96,7 @@ fn is_name(argument: &Value, name: &Text) -> bool
     }
 }
 
-/// The position of a name among some values, counted from 0.
+/// An index of a name among some values.
 fn name_place(values: &[Value], name: &Text) -> Option<usize>
     ensures some { IfSome result (λ i.
         slice_get (map tree_of values.now) i ≡ Some (text name.now)) }
@@ -127,7 +124,6 @@ pub fn field_in<'a>(function: &'a FunValue, name: &Text) -> Option<&'a Value>
     }
 }
 
-/// Whether a function has each field.
 fn has_fields(function: &FunValue, fields: &[(Text, Core)]) -> bool
     ensures { result
         ≡ list_all (λ k. is_member k (arguments function.now))
@@ -165,7 +161,7 @@ fn are_fields(values: &[Value], fields: &[(Text, Core)]) -> bool
     true
 }
 
-/// Whether the arguments of a function are just the names of some fields.
+/// Whether the arguments of a function are exactly the names of some fields.
 pub fn has_just(function: &FunValue, fields: &[(Text, Core)]) -> bool
     ensures { result
         ≡ tree_eq (set (trees (arguments function.now)))

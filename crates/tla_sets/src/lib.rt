@@ -1,4 +1,5 @@
-//! Sets that forms go over or ask, choices from them, and the functions and records on them. (Lamport, Specifying Systems, chapter 16.)
+//! Iteration over sets and membership in them without building them; choices from sets, and functions and records on
+//! them. (Lamport, Specifying Systems, chapter 16.)
 #![tactic(auto)]
 
 pub mod asked;

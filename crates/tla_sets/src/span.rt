@@ -1,4 +1,4 @@
-//! Numbers that follow one another, no more than a set may have.
+//! Ranges of at most as many numbers as a set may have members.
 ghost use Rattle.std.specs.Prelude.{◌≡◌, ◌≤◌, ◌<◌, Some, length, slice_get};
 ghost use Rattle.tla_value.specs.Tree.{int};
 ghost use Rattle.tla_value.specs.Choices.{range_of};
@@ -29,7 +29,7 @@ impl Span {
         count_between(self.low, self.high)
     }
 
-    /// The number at a place, counted from 0.
+    /// The number at an index.
     pub(crate) fn number_at(self, place: usize) -> i64
         requires { place < length (range_of self.low self.high) }
         ensures { Some (int result) ≡ slice_get (range_of self.low self.high) place }
@@ -50,7 +50,7 @@ fn count_between(low: i64, high: i64) -> usize
     steps.saturating_add(1) as usize
 }
 
-/// One of the numbers from `low` to `high`, counted from 0.
+/// The number at an index of the range from `low` to `high`.
 fn number_above(low: i64, high: i64, place: usize) -> i64
     requires { place < length (range_of low high) }
     ensures { Some (int result) ≡ slice_get (range_of low high) place }

@@ -1,4 +1,4 @@
--- A node with a list of parts is a copy of another where its parts are, and a use where its numbers agree.
+-- A node with a list of parts is a copy of another if its parts are, and a use if its numbers agree.
 use Rattle.std.proofs.Common.{◌≡◌, ℕ, List, map, Option, Some, None, option_map, refl, ap, sym, ◌∙◌, slice_get, Vec, Box, Bor, Global}
 use Rattle.std.proofs.lemmas.Option.{slice_get-map}
 use Rattle.tla_core.specs.declared.fault.Place.{Place}
@@ -45,7 +45,7 @@ module _ (k : Shift) {c d : Code} {p q : Place} (same : p ≡ q) where
       ∙ sym (ap (λ x. raise k.from k.by x) (ap (expr_in scope) e ∙ except_of_in scope p a xs))
 
 -- ---- uses
--- how many names are outside the definition with a number
+-- the number of names outside the definition with a number
 has_outside : (scope : Scope) (n : ℕ) (d : ℕ × Expr) → slice_get scope n ≡ Some d → slice_get (map (λ (x : ℕ × Expr). x.0) scope) n ≡ Some d.0
 has_outside scope n d h = slice_get-map (λ (x : ℕ × Expr). x.0) scope n ∙ ap (option_map (λ (x : ℕ × Expr). x.0)) h
 

@@ -1,4 +1,4 @@
--- Codes that stand for others once there is one more definition, in lists and in nodes with lists.
+-- Codes that denote the same as others once there is one more definition, in lists and in nodes with lists.
 use Rattle.std.proofs.Common.{◌≡◌, ℕ, ◌+◌, ◌<◌, List, [], ◌∷◌, ◌++◌, map, length, Some, refl, ap, sym, ◌∙◌, slice_get, Vec, Box, Bor, Global, arith}
 use Rattle.std.specs.List.{AllZip}
 use Rattle.std.proofs.lemmas.Option.{slice_get-get_or}
@@ -31,7 +31,7 @@ earlier scope d k h =
 pub newest : (scope : Scope) (d : ℕ × Expr) → slice_get (scope ++ d ∷ []) (length scope) ≡ Some d
 newest scope d = slice_get-get_or (scope ++ d ∷ []) (length scope) d (let l = long scope d in grind (arith, l)) ∙ ap Some (get_or-append_seam scope d [] d)
 
--- how many names are outside each definition, with one more
+-- the number of names outside each definition, with one more definition
 pub names_longer : (scope : Scope) (outside : List ℕ) (names : ℕ) (e : Expr) → HasNames scope outside → HasNames (scope ++ (names, e) ∷ []) (outside ++ names ∷ [])
 names_longer scope outside names e h = longer scope ∙ ap (λ (ns : List ℕ). ns ++ names ∷ []) h where
   longer : (xs : Scope) → map (λ (d : ℕ × Expr). d.0) (xs ++ (names, e) ∷ []) ≡ map (λ (d : ℕ × Expr). d.0) xs ++ names ∷ []
@@ -67,7 +67,7 @@ module _ (before after : Scope) where
   updates_stay (x ∷ xs) [] h = absurd h
   updates_stay (x ∷ xs) (c ∷ cs) h = λ i. more_updates (all_stay x.0.items c.0.items h.0.0 i) (h.0.1 i) (updates_stay xs cs h.1 i)
 
--- what holds of pairs for a reason holds for a weaker one
+-- a weaker property holds of the same pairs
 pub weaker : {A B : Type 0} (P Q : A → B → Type 0) → ((x : A) (y : B) → P x y → Q x y) → (xs : List A) (ys : List B) → AllZip P xs ys → AllZip Q xs ys
 weaker P Q go [] [] h = h
 weaker P Q go [] (y ∷ ys) h = absurd h

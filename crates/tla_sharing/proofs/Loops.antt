@@ -6,7 +6,7 @@ abbrev head_or : {A : Type 0} → A → List A → A
 head_or d [] = d
 head_or d (x ∷ xs) = x
 
--- an item doesn't depend on what stands for one that isn't there
+-- an item that exists doesn't depend on the default
 pub same_item : {A : Type 0} (xs : List A) (i : ℕ) (d e : A) → i < length xs → get_or xs i d ≡ get_or xs i e
 same_item xs i d e h = sym (ap (head_or d) (drop-cons xs i d h)) ∙ ap (head_or d) (drop-cons xs i e h)
 
@@ -18,7 +18,7 @@ drop-item : {A : Type 0} (xs : List A) (i : ℕ) (x : A) → x ≡ get_or xs i x
 drop-item xs i x e h = rw add-one (drop-cons xs i x h ∙ ap (λ y. y ∷ drop (suc i) xs) (sym e))
 
 module _ {A : Type 0} (R : List A → List A → Type 0) (xs ys : List A) (i : ℕ) (done : R (drop i xs) (drop i ys) → R xs ys) where
-  -- what holds of the items here and of those after them holds of those from here on
+  -- what holds of this item and of those after it holds of those from here on
   pub one_more : (x y : A) → x ≡ get_or xs i x → y ≡ get_or ys i y → i < length xs → i < length ys → (R (drop (i + 1) xs) (drop (i + 1) ys) → R (x ∷ drop (i + 1) xs) (y ∷ drop (i + 1) ys)) → R (drop (i + 1) xs) (drop (i + 1) ys) → R xs ys
   one_more x y e f h k cons rest = done (rw (drop-item xs i x e h, drop-item ys i y f k) (cons rest))
 

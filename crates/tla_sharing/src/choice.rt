@@ -23,8 +23,9 @@ pub(crate) struct Search<'o, 'm> {
     pub(crate) wanted: Wanted,
 }
 
-/// What is searched for. `Copies`: a part that occurs twice, or that can be moved out of a binder, anywhere in the
-/// expression. `CopiesNearby`: only among siblings. `Closed(n)`: a closed part of more than n nodes.
+/// What is searched for. `Copies`: a part that occurs twice, or that can be moved out of a binder. `CopiesNearby`: the
+/// same, but a part that occurs twice is found only as both operands of one form. `Closed(n)`: a closed part of more
+/// than n nodes.
 #[derive(Clone, Copy)]
 pub(crate) enum Wanted {
     Copies,
@@ -32,7 +33,7 @@ pub(crate) enum Wanted {
     Closed(usize),
 }
 
-/// Finds a part to define. Its bound names are renumbered as if it were outside the forms around it.
+/// Finds a part to define. Its bound names are renumbered as if it were outside the binders around it.
 #[cycle(choose)]
 pub(crate) fn chosen<'m>(
     alloc: Global,
@@ -124,7 +125,7 @@ fn chosen_in_lists<'m>(
     }
 }
 
-/// Whether a part may be one to define.
+/// Whether a part is a candidate, before it is renumbered.
 fn is_wanted(code: &Code<'_>, spot: Position, search: Search<'_, '_>) -> bool {
     let is_far = match search.wanted {
         Wanted::Copies => true,
@@ -135,7 +136,7 @@ fn is_wanted(code: &Code<'_>, spot: Position, search: Search<'_, '_>) -> bool {
     is_far && is_candidate(code, spot.usage)
 }
 
-/// Whether a part, once renumbered, is to be defined.
+/// Whether a part, once renumbered, becomes a definition.
 fn is_worth_defining<'m>(definition: &Code<'m>, spot: Position, search: Search<'_, 'm>) -> bool {
     match search.wanted {
         Wanted::Copies | Wanted::CopiesNearby => {
@@ -146,7 +147,7 @@ fn is_worth_defining<'m>(definition: &Code<'m>, spot: Position, search: Search<'
     }
 }
 
-/// Whether copies are looked for.
+/// Whether copies are searched for.
 fn wants_copies(wanted: Wanted) -> bool {
     match wanted {
         Wanted::Copies | Wanted::CopiesNearby => true,
@@ -154,7 +155,7 @@ fn wants_copies(wanted: Wanted) -> bool {
     }
 }
 
-/// A part, renumbered as if it were outside the forms around it.
+/// A part, renumbered as if it were outside the binders around it.
 fn try_hoist<'m>(
     alloc: Global,
     code: &Code<'m>,
@@ -171,7 +172,7 @@ fn try_hoist<'m>(
     }
 }
 
-/// A body under more names.
+/// The same, in a body under more names.
 #[cycle(choose)]
 fn chosen_under<'m>(
     alloc: Global,

@@ -15,8 +15,8 @@ use tla_code::{Code, is_steady};
 /// The greatest number of attempts to find a larger closed part.
 const MAX_SEARCHES: usize = 64;
 
-/// The largest closed part of an expression under `names` bound names that makes or visits a set or a function. It is
-/// returned as it would be under no names.
+/// The largest closed part of an expression under `names` bound names that builds or iterates over a set or a function.
+/// It is renumbered as if it were under no names.
 pub fn constant_in<'m>(alloc: Global, code: &Code<'m>, names: usize) -> Option<Code<'m>>
     ensures { IfSome result (λ c. IsClosed c) }
 {
@@ -24,7 +24,7 @@ pub fn constant_in<'m>(alloc: Global, code: &Code<'m>, names: usize) -> Option<C
     if is_steady(&found) { Some(found) } else { None }
 }
 
-/// The largest part that may be one.
+/// The largest closed part that the searches find.
 fn largest_closed_part<'m>(alloc: Global, code: &Code<'m>, names: usize) -> Option<Code<'m>> {
     let mut largest: Option<Code<'m>> = None;
     let mut least = 0usize;
@@ -56,9 +56,8 @@ fn larger_closed_part<'m>(
     chosen(alloc, code, position_at(names, Usage::Value), search)
 }
 
-/// An expression under `names` bound names, in which all copies of a definition under no names are replaced by uses.
-/// `outside` has, for each definition in scope, the number of names bound outside it. None: the expression is left
-/// unchanged.
+/// An expression under `names` bound names, with all copies of a definition under no names replaced by uses. `outside`
+/// has, for each definition in scope, the number of names bound outside it. None: the expression stays unchanged.
 pub fn with_constant<'m>(
     alloc: Global,
     code: &Code<'m>,
@@ -82,7 +81,7 @@ pub fn with_constant<'m>(
     }
 }
 
-/// An expression that uses the definition with a number.
+/// The expression, if it uses the definition with this number.
 fn if_used<'m>(code: Code<'m>, number: usize) -> Option<Code<'m>>
     ensures { IfSome result (λ c. c ≡ code.entry) }
 {

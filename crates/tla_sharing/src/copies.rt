@@ -6,8 +6,8 @@ use crate::shift::{Shift, are_openings, are_same, is_name, is_same_form, is_use}
 use tla_code::Code;
 use tla_value::Text;
 
-/// Whether one expression is known to be a copy of another. FALSE means nothing: an expression with definitions of its
-/// own, a CASE or a constant set isn't compared.
+/// Whether one expression is known to be a copy of another. FALSE means nothing: an Assert, or an expression with
+/// definitions of its own, isn't compared.
 #[cycle(copies)]
 pub(crate) fn is_copy(original: &Code<'_>, copy: &Code<'_>, shift: Shift<'_>) -> bool
     ensures { IsTrue result → IsCopy shift.entry original.now copy.now }
@@ -36,7 +36,7 @@ pub(crate) fn is_copy(original: &Code<'_>, copy: &Code<'_>, shift: Shift<'_>) ->
     }
 }
 
-/// Whether a use of the definition with a number is the copy of one.
+/// Whether a use of the definition with this number is the copy of another use of it.
 fn is_copied_use(number: usize, names: usize, since: usize, shift: Shift<'_>) -> bool
     ensures { IsTrue result
         → (outer : ℕ)

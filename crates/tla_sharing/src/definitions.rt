@@ -1,4 +1,4 @@
-//! The pass that makes definitions.
+//! The pass that introduces definitions.
 ghost use Rattle.std.specs.Prelude.{◌≡◌, ◌+◌, IfOk, IfSome, [], ◌∷◌, ◌++◌};
 ghost use Rattle.std.specs.List.{AllZip};
 ghost use Rattle.tla_code.specs.CodeExpr.{Scope, expr_in};
@@ -21,7 +21,7 @@ const MAX_NESTING: usize = 64;
 const MAX_CALLS: usize = 100_000;
 
 /// The position of the pass: the number of bound names, the number of names bound outside each definition in scope, and
-/// how many nested calls are left.
+/// how many more calls may be nested.
 #[derive(Clone, Copy)]
 struct SharingContext<'o> {
     names: usize,
@@ -47,7 +47,7 @@ fn under<'o>(spot: SharingContext<'o>, more: usize) -> Result<SharingContext<'o>
     })
 }
 
-/// The list `outside`, with one number of names appended.
+/// The list `outside` with `names` appended.
 fn one_more(alloc: Global, outside: &[usize], names: usize) -> Result<Vec<usize>, GaveUp>
     ensures { IfOk result (λ v. v.items ≡ outside.now ++ names ∷ []) }
 {
@@ -56,9 +56,9 @@ fn one_more(alloc: Global, outside: &[usize], names: usize) -> Result<Vec<usize>
     Ok(longer)
 }
 
-/// The expression in which parts that occur several times, or that don't depend on the names bound around them, are
-/// definitions. It is under `names` bound names; `outside` has, for each definition in scope, the number of names bound
-/// outside it. None: the expression is left unchanged, for example because memory ran out.
+/// The same expression, with definitions for parts that occur several times or that can be moved out of a binder. It is
+/// under `names` bound names; `outside` has, for each definition in scope, the number of names bound outside it. None:
+/// the expression stays unchanged, for example because memory ran out.
 pub fn shared<'m>(
     alloc: Global,
     code: &Code<'m>,
@@ -113,7 +113,7 @@ fn shared_body<'m>(
     }
 }
 
-/// A body with one more definition around it, if it uses that.
+/// A body with one more definition around it, if it uses the definition.
 #[cycle(share)]
 fn defined<'m>(
     alloc: Global,
@@ -139,7 +139,7 @@ fn defined<'m>(
     Ok(Code::Let(next.names, is_needed, definition, inner))
 }
 
-/// A body inside another definition, in a box.
+/// A body under one more definition, in a box.
 #[cycle(share)]
 fn boxed_inside<'m>(
     alloc: Global,
@@ -160,7 +160,7 @@ fn boxed_inside<'m>(
     Ok(Box::new(alloc, code)?)
 }
 
-/// An expression whose parts get definitions.
+/// An expression with definitions in its parts.
 #[cycle(share)]
 fn shared_parts<'m>(
     alloc: Global,

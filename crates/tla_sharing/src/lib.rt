@@ -1,4 +1,4 @@
-//! What occurs several times, or inside forms that bind other names, becomes a definition with uses.
+//! Common subexpressions, and parts that can be moved out of binders, become definitions with uses.
 #![tactic(auto)]
 
 mod choice;

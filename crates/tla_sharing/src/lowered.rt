@@ -6,14 +6,14 @@ use tla_code::Code;
 use tla_core::{Core, Opening};
 use tla_value::Text;
 
-/// The names from `from` on, up to `from + by`, are removed.
+/// The bound names to remove: `by` names from `from` on.
 #[derive(Clone, Copy)]
 pub(crate) struct Gap {
     pub(crate) from: usize,
     pub(crate) by: usize,
 }
 
-/// The number of a name once the gap is closed. A name of the gap has none.
+/// The number of a name after the gap is removed; an error for a name in the gap.
 fn lowered_name(index: usize, gap: Gap) -> Result<usize, GaveUp> {
     if index < gap.from {
         return Ok(index);
@@ -30,7 +30,7 @@ fn lowered_name(index: usize, gap: Gap) -> Result<usize, GaveUp> {
     }
 }
 
-/// Whether an expression without names can be compared.
+/// Whether `is_copy` can compare an expression without bound names.
 fn is_known(core: &Core) -> bool {
     match core {
         Core::Constant(_, _)
@@ -43,7 +43,7 @@ fn is_known(core: &Core) -> bool {
     }
 }
 
-/// The expression that a part is a copy of, if the part uses no name of the gap.
+/// A part renumbered without the gap, so that it should be a copy of the result; an error if it uses a name in the gap.
 #[cycle(lower)]
 pub(crate) fn lowered<'m>(alloc: Global, code: &Code<'m>, gap: Gap) -> Result<Code<'m>, GaveUp> {
     match code {

@@ -1,4 +1,4 @@
-//! What is worth a definition, and which definitions are surely used. This affects only time.
+//! What is worth a definition, and which definitions are certainly used. This affects only time.
 
 use tla_code::{BinderForm, Code, FieldForm, ListForm, OneForm, ThreeForm, TwoForm};
 use tla_core::{Binary, Opening, Unary};
@@ -16,25 +16,25 @@ pub(crate) fn items_of(openings: &[Opening]) -> Option<usize> {
     Some(count)
 }
 
-/// From this size of an expression on, copies aren't looked for in all of it.
+/// In an expression of at least this size, copies aren't searched for everywhere.
 const MIN_LARGE_SIZE: usize = 4_000;
 
-/// The same from this depth on.
+/// The same, for the depth.
 const MIN_LARGE_DEPTH: usize = 100;
 
-/// Whether copies are looked for in all of an expression. Each part is compared with each other one, and two parts may
-/// first differ at their innermost parts.
+/// Whether copies are searched for in all of an expression. That compares each part with each other one, and two parts
+/// may first differ at their innermost parts.
 pub(crate) fn is_small(code: &Code<'_>) -> bool {
     let near = size(code, MIN_LARGE_DEPTH);
     near < MIN_LARGE_SIZE && near == size(code, MIN_LARGE_SIZE)
 }
 
-/// Whether an expression is worth a definition: it makes a set or a function, or is large.
+/// Whether an expression is worth a definition: it builds or iterates over a set or function, or is large.
 pub(crate) fn is_expensive(code: &Code<'_>) -> bool {
     builds_or_visits_set(code) || size(code, MIN_SHARED_SIZE) >= MIN_SHARED_SIZE
 }
 
-/// Whether a form makes a set or a function, or visits one.
+/// Whether a form builds a set or a function, or iterates over one.
 pub(crate) fn builds_or_visits_set(code: &Code<'_>) -> bool {
     match code {
         Code::Binder(_, _, _, _) | Code::Map(_, _, _, _) => true,
@@ -48,7 +48,7 @@ pub(crate) fn builds_or_visits_set(code: &Code<'_>) -> bool {
     }
 }
 
-/// How many nodes an expression has, without those inside `most` others or more.
+/// The number of nodes of an expression with fewer than `most` nodes around them.
 #[cycle(count)]
 pub(crate) fn size(code: &Code<'_>, most: usize) -> usize {
     if most == 0 {
@@ -110,7 +110,8 @@ fn saturating_sum(one: usize, other: usize) -> usize {
     one.saturating_add(other)
 }
 
-/// Whether the value of an expression, if it has one, always needs the value of the definition with this number.
+/// Whether the value of an expression, if it has one, always depends on the definition with this number. FALSE means
+/// nothing.
 #[cycle(need)]
 pub(crate) fn needs(code: &Code<'_>, number: usize) -> bool {
     match code {

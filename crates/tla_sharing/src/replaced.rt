@@ -12,8 +12,8 @@ use tla_code::Code;
 use tla_core::Place;
 use tla_value::Text;
 
-/// A definition under `names` names. `outside` has the number of names that are bound outside each definition around it;
-/// so its own number is how many they are.
+/// A definition under `names` names. `outside` has, for each definition in scope, the number of names bound outside it;
+/// its length is the number of the new definition.
 #[derive(Clone, Copy)]
 pub(crate) struct Target<'t, 'm> {
     pub(crate) definition: &'t Code<'m>,
@@ -21,7 +21,7 @@ pub(crate) struct Target<'t, 'm> {
     pub(crate) outside: &'t [usize],
 }
 
-/// The place of an expression of a form that has one.
+/// The place of an expression, if its form has one.
 fn place_of(code: &Code<'_>) -> Option<Place> {
     match code {
         Code::One(place, _, _)
@@ -62,7 +62,7 @@ pub(crate) fn replaced<'t, 'm>(
     replaced_within(alloc, code, by, target)
 }
 
-/// The expression, no copy itself, with copies inside it replaced.
+/// The expression, which isn't a copy itself, with the copies inside it replaced.
 #[cycle(replace)]
 fn replaced_within<'t, 'm>(
     alloc: Global,
@@ -229,7 +229,7 @@ fn updates_replaced<'t, 'm>(
     Ok(made)
 }
 
-/// The new value of an update, in which the old one is one more name.
+/// The new value of an update, in which `@` is one more name.
 #[cycle(replace)]
 fn value_replaced<'t, 'm>(
     alloc: Global,

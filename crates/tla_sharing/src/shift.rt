@@ -10,8 +10,8 @@ ghost use Rattle.tla_sharing.specs.Private.Copies.{IsUse};
 use tla_code::OneForm;
 use tla_core::{Core, Opening};
 
-/// The original is under `from` names, and its copy under `by` more. `outside` has, for each definition around both,
-/// the number of names that are bound outside it.
+/// The original is under `from` names, and its copy under `by` more. `outside` has, for each definition in scope, the
+/// number of names bound outside it.
 #[derive(Clone, Copy)]
 pub(crate) struct Shift<'o> {
     pub(crate) from: usize,
@@ -19,7 +19,7 @@ pub(crate) struct Shift<'o> {
     pub(crate) outside: &'o [usize],
 }
 
-/// Whether a bound name has this number in a copy.
+/// Whether the bound name `original` has the number `copy` in the copy.
 pub(crate) fn is_name(original: usize, from: usize, by: usize, copy: usize) -> bool
     ensures { IsTrue result → copy ≡ raised_name from by original }
 {
@@ -30,7 +30,7 @@ pub(crate) fn is_name(original: usize, from: usize, by: usize, copy: usize) -> b
     }
 }
 
-/// Whether patterns open the same elements in a copy.
+/// Whether the patterns of a copy destructure the same elements.
 pub(crate) fn are_openings(
     originals: &[Opening],
     from: usize,

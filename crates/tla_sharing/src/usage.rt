@@ -1,4 +1,4 @@
-//! How the value of an expression is used: a set that is only tested for members isn't made. Only time depends on it.
+//! How the value of an expression is used: a set that is only tested for members isn't built. This affects only time.
 
 use crate::measures::is_expensive;
 use tla_code::{BinderForm, Code, FieldForm, ListForm, OneForm, ThreeForm, TwoForm};
@@ -10,7 +10,7 @@ pub(crate) enum Usage {
     Value,
     /// For membership tests. Some forms decide them without their value.
     Members,
-    /// To iterate over its elements. A range isn't made for that.
+    /// To iterate over its elements. A range isn't built for that.
     Elements,
 }
 
@@ -30,7 +30,7 @@ pub(crate) fn with_usage(spot: Position, usage: Usage) -> Position {
     Position { by: spot.by, usage }
 }
 
-/// A body under more names. Its value is needed, or whether it is TRUE.
+/// The position of a body under `more` names. Its value is used.
 pub(crate) fn under(spot: Position, more: usize) -> Position {
     Position {
         by: spot.by.saturating_add(more),
@@ -59,7 +59,10 @@ fn has_membership_test(code: &Code<'_>) -> bool {
                 )
         }
         Code::Three(_, form, _, _, _) => matches!(form, ThreeForm::If),
-        Code::List(_, form, _) => matches!(form, ListForm::Enumerated | ListForm::Product),
+        Code::List(_, form, _) => matches!(
+            form,
+            ListForm::Enumerated | ListForm::Product | ListForm::Cases
+        ),
         Code::Fields(_, form, _) => matches!(form, FieldForm::Records),
         Code::Binder(_, form, _, _) => matches!(form, BinderForm::Filter),
         _ => false,
@@ -117,7 +120,7 @@ pub(crate) fn arm_usage(form: ThreeForm, usage: Usage) -> Usage {
 /// The use of an operand in a list.
 pub(crate) fn part_usage(form: ListForm, usage: Usage) -> Usage {
     match form {
-        ListForm::Product => inherited(usage),
+        ListForm::Product | ListForm::Cases => inherited(usage),
         _ => Usage::Value,
     }
 }

@@ -1,15 +1,15 @@
-//! An action, its parts, and what leads on to them.
+//! An action and its parts.
 
 use std::alloc::{AllocError, Global};
 use tla_core::{Core, Place};
 
-/// An action, and what is looked for in it.
+/// An action, and which of its parts are searched for.
 #[derive(Clone, Copy)]
 pub struct Action<'a> {
     pub core: &'a Core,
-    /// Where the definitions of its module begin, in the order of the text.
+    /// The places where the definitions of its module begin, in the order of the text.
     pub starts: &'a [Place],
-    /// The parts that aren't looked for.
+    /// The parts to skip.
     pub skipped: &'a [ActionPart],
 }
 
@@ -17,7 +17,7 @@ pub struct Action<'a> {
 #[derive(Clone, Copy, Debug, PartialEq, Eq)]
 pub struct ActionPart {
     pub place: Place,
-    /// The place of the innermost conjunction in which it is the part that leads on.
+    /// The place of the innermost conjunction whose leading conjunct contains it.
     pub within: Option<Place>,
 }
 
@@ -61,7 +61,7 @@ fn gather_all(
     Ok(())
 }
 
-/// Gathers the parts of one conjunct of the conjunction at a place.
+/// Adds the parts of one conjunct of the conjunction at a place.
 #[cycle(parted)]
 fn gather_at(
     conjuncts: &[Core],
@@ -85,9 +85,9 @@ fn add(place: Place, within: Option<Place>, parts: &mut Vec<ActionPart>) -> Resu
     Ok(())
 }
 
-/// Which conjunct of a conjunction has the parts: the only one with next values that is a disjunction or a `\E`, or
-/// that contains such a conjunct. If there is none, it is the only one with next values, if that belongs to another
-/// definition.
+/// The leading conjunct of a conjunction, which contains its parts: the only one with primed variables that branches
+/// (is a disjunction or a `\E`, or contains such a conjunct). If none branches: the only one with primed variables, if
+/// it belongs to another definition.
 pub(crate) fn leading_conjunct(
     place: Place,
     conjuncts: &[Core],
@@ -110,7 +110,7 @@ pub(crate) fn leading_conjunct(
     }
 }
 
-/// How many of some parts are found, and which.
+/// No conjunct, exactly one, or several.
 #[derive(Clone, Copy)]
 enum Found {
     None,
@@ -118,7 +118,7 @@ enum Found {
     Many,
 }
 
-/// The only conjunct with next values, or the only one of those that branch.
+/// The only conjunct with primed variables; with `branch`, the only one that branches.
 #[cycle(leading_conjunct)]
 fn only_conjunct(conjuncts: &[Core], branch: bool) -> Found {
     let mut found = Found::None;
@@ -135,7 +135,7 @@ fn only_conjunct(conjuncts: &[Core], branch: bool) -> Found {
     found
 }
 
-/// Whether a part has parts of its own, in a conjunct that branches.
+/// Whether a part is a disjunction or a `\E`, or has such a conjunct.
 #[cycle(leading_conjunct)]
 fn branches(core: &Core) -> bool {
     match core {
@@ -145,7 +145,7 @@ fn branches(core: &Core) -> bool {
     }
 }
 
-/// The number of the definition in which a place is: how many begin at it or before it.
+/// The number of the definition that contains a place: how many begin at it or before it.
 fn definition(place: Place, starts: &[Place]) -> usize {
     starts
         .iter()

@@ -8,16 +8,16 @@ use tla_core::{Core, Fault, Opening, Place};
 use tla_eval::Partial;
 use tla_value::State;
 
-/// How many choices of a `\E` are looked at.
+/// How many choices of a `\E` are examined.
 const MOST_CHOICES: usize = 3;
 
 /// A part of an action that makes no step.
 #[derive(Drop)]
 pub struct Blocked<'a> {
     pub part: &'a Core,
-    /// Why it makes none, for its first choices.
+    /// Why it makes none, for the first choices.
     pub reasons: Vec<Reason<'a>>,
-    /// How many choices were looked at.
+    /// How many choices were examined.
     pub choices: usize,
     /// How many more choices there are.
     pub more: usize,
@@ -30,8 +30,8 @@ struct Blocks<'a> {
     found: Vec<Blocked<'a>>,
 }
 
-/// The parts of an action that makes no step, in the order of the text, and why each makes none, as
-/// far as `budget` evaluations show it. The only error is that memory ran out.
+/// The parts of an action that makes no step, in the order of the text, and why each makes none, with at most `budget`
+/// evaluations. The only error is that memory ran out.
 pub fn blocked_parts<'a>(
     alloc: Global,
     action: &'a Core,
@@ -118,7 +118,7 @@ fn find_by_items<'a>(
     outcome
 }
 
-/// Adds why a part makes no step, with one more choice.
+/// Adds why a part makes no step, for one more choice.
 fn add_blocked<'a>(
     part: &'a Core,
     walk: &mut Walk<'_>,
@@ -196,7 +196,7 @@ fn find_stop<'a>(
     }
 }
 
-/// Finds why a part that is evaluated is FALSE.
+/// Finds why a part that is only evaluated is FALSE.
 fn find_false<'a>(
     part: &'a Core,
     from: &Partial,
@@ -221,7 +221,7 @@ fn add_reason<'a>(
     Ok(())
 }
 
-/// Finds the first conjunct that leaves no state, and why.
+/// Finds the first conjunct that leads to no state, and why.
 #[cycle(stop)]
 fn stop_in_turn<'a>(
     parts: &'a [Core],
@@ -277,7 +277,7 @@ fn stop_in_each<'a>(
     Ok(())
 }
 
-/// Finds why the arm that is taken gives no state; false if no condition is TRUE.
+/// Finds why the arm that is taken leads to no state; false if no condition is TRUE.
 #[cycle(stop)]
 fn stop_in_arm<'a>(
     arms: &'a [(Core, Core)],
@@ -325,7 +325,7 @@ fn stop_by_element<'a>(
     Ok(())
 }
 
-/// Finds why the body leads on from no state at the first element at which it does so.
+/// Finds the first element at which the body leads to no state, and why.
 #[cycle(stop)]
 fn stop_in_elements<'a>(
     body: &'a Core,
@@ -352,7 +352,7 @@ fn stop_in_elements<'a>(
     Ok(())
 }
 
-/// The states that a body leads to from these; none where there are none, and why is found.
+/// The states that a body leads to from these; if there are none, finds why, and returns none.
 #[cycle(stop)]
 fn next_states<'a>(
     body: &'a Core,

@@ -1,16 +1,16 @@
-//! A part of an action, and what was chosen on the way to it.
+//! A part of an action, and the values that quantifiers above it chose.
 
 use std::alloc::{AllocError, Global};
 use tla_core::{Fault, Place, memory};
 use tla_value::Value;
 
-/// The value of a name that a quantifier or another form binds. A name of a pattern has an item of
-/// the element.
+/// The value of a name that a quantifier or another form binds. The value of a name in a pattern is an item of the
+/// element.
 #[derive(Drop)]
 pub struct Chosen {
     /// The place of the form that binds the name.
     pub place: Place,
-    /// Which of its names it is, from 0.
+    /// The index of the name among the names of the form.
     pub name: usize,
     pub value: Value,
 }
@@ -19,16 +19,16 @@ pub struct Chosen {
 #[derive(Drop)]
 pub struct Taken {
     pub place: Place,
-    /// The place of the innermost conjunction in which it is the part that leads on.
+    /// The place of the innermost conjunction whose leading conjunct contains it.
     pub within: Option<Place>,
     pub chosen: Vec<Chosen>,
 }
 
-/// The bound names above a part.
+/// The bound names in scope at a part.
 #[derive(Drop)]
 pub(crate) struct Path {
     values: Vec<Value>,
-    /// The place of the form that binds each; none where it has no name in the text.
+    /// The place of the form that binds each; none if it has no name in the text.
     places: Vec<Option<Place>>,
 }
 
@@ -40,34 +40,34 @@ impl Path {
         }
     }
 
-    /// Adds one choice. The only error is that memory ran out.
+    /// Adds a choice. The only error is that memory ran out.
     pub(crate) fn push(&mut self, place: Place, value: Value) -> Result<(), AllocError> {
         self.places.push(Some(place))?;
         self.values.push(value)?;
         Ok(())
     }
 
-    /// One value more that has no name in the text. The only error is that memory ran out.
+    /// Adds a value that has no name in the text. The only error is that memory ran out.
     pub(crate) fn push_unnamed(&mut self, value: Value) -> Result<(), AllocError> {
         self.places.push(None)?;
         self.values.push(value)?;
         Ok(())
     }
 
-    /// An element that is replaced by its items has no name in the text.
+    /// Marks an element as having no name in the text: a pattern replaces it by its items.
     pub(crate) fn hide(&mut self, name: usize) {
         if let Some(place) = self.places.get_mut(name) {
             *place = None;
         }
     }
 
-    /// Takes all choices but the first ones away.
+    /// Removes all choices but the first `count`.
     pub(crate) fn truncate(&mut self, count: usize) {
         self.places.truncate(count);
         self.values.truncate(count);
     }
 
-    /// How many choices there are.
+    /// The number of choices.
     pub(crate) fn len(&self) -> usize {
         self.values.len()
     }
@@ -77,7 +77,7 @@ impl Path {
         &mut self.values
     }
 
-    /// The choices that have a name. The only error is that memory ran out.
+    /// The choices that have a name in the text. The only error is that memory ran out.
     pub(crate) fn named_choices(&self, alloc: Global) -> Result<Vec<Chosen>, Fault> {
         let mut chosen = Vec::new(alloc);
         let mut last = None;

@@ -1,5 +1,4 @@
-//! The part of an expression that faults: the node whose rule answers the fault, and what its
-//! operands were.
+//! The part of an expression that faults: the node of the fault, and the values of its operands.
 
 use crate::chosen::Chosen;
 use crate::reason::{Operand, add_operand, shown_operands};
@@ -13,17 +12,17 @@ use tla_value::{State, Text, Value};
 /// The node of a fault.
 #[derive(Drop)]
 pub struct Culprit<'a> {
-    /// The nodes on the way to it, from the top. The last one is the node itself.
+    /// The nodes on the path to it, from the root. The last one is the node itself.
     pub nodes: Vec<&'a Core>,
-    /// The values of the names that are bound around it, the outermost first.
+    /// The values of the bound names in scope, the outermost first.
     pub chosen: Vec<Chosen>,
-    /// Its operands that have a value.
+    /// Those of its operands that have a value.
     pub operands: Vec<Operand<'a>>,
-    /// Its own value, if it has one, which is then no truth value where one is wanted.
+    /// Its own value, if it has one: then the fault is that this is no truth value.
     pub value: Option<Value>,
 }
 
-/// What is looked for, and the way to where the search is.
+/// The fault that is searched for, and the path to the current node.
 #[derive(Drop)]
 pub(crate) struct Hunt<'a, 's> {
     pub(crate) fault: Fault,
@@ -47,12 +46,12 @@ impl<'a, 's> Hunt<'a, 's> {
         }
     }
 
-    /// Goes down from an expression, if it faults; false where it doesn't.
+    /// Descends from an expression, if it has the fault; else returns false.
     pub(crate) fn descend(&mut self, core: &'a Core, next: &Partial) -> Result<bool, Fault> {
         hunt_if_faulty(core, next, self)
     }
 
-    /// Whether an expression has the fault that is looked for.
+    /// Whether an expression has the fault that is searched for.
     fn is_faulty(&mut self, core: &Core, next: &Partial) -> Result<bool, Fault> {
         Ok(self.walk.fault(core, next)? == Some(self.fault))
     }
@@ -62,8 +61,8 @@ impl<'a, 's> Hunt<'a, 's> {
     }
 }
 
-/// The node at which an expression faults, as far as `budget` evaluations show it. The only error
-/// is that memory ran out.
+/// The node at which an expression faults, if at most `budget` evaluations find it. The only error is that memory ran
+/// out.
 pub fn culprit_in<'a>(
     alloc: Global,
     core: &'a Core,
@@ -77,7 +76,7 @@ pub fn culprit_in<'a>(
     Ok(hunt.into_culprit())
 }
 
-/// Goes down from an expression that faults.
+/// Descends from an expression that faults.
 #[cycle(hunt)]
 pub(crate) fn hunt_in<'a>(
     core: &'a Core,
@@ -91,7 +90,7 @@ pub(crate) fn hunt_in<'a>(
     Ok(())
 }
 
-/// Goes down from an expression, if it faults; false where it doesn't.
+/// Descends from an expression, if it has the fault; else returns false.
 #[cycle(hunt)]
 fn hunt_if_faulty<'a>(
     core: &'a Core,
@@ -105,7 +104,7 @@ fn hunt_if_faulty<'a>(
     Ok(is_faulty)
 }
 
-/// Goes down to the first part that faults; false where none does.
+/// Descends to the first part that faults; false if none does.
 #[cycle(hunt)]
 fn hunt_in_parts<'a>(
     core: &'a Core,
@@ -133,7 +132,7 @@ fn hunt_in_parts<'a>(
     }
 }
 
-/// Goes down into the sets, the body or the updates of a form that binds names.
+/// Descends into the sets, the body or the updates of a form that binds names.
 #[cycle(hunt)]
 fn hunt_in_body<'a>(
     core: &'a Core,
@@ -172,7 +171,7 @@ fn hunt_in_body<'a>(
     }
 }
 
-/// Goes down to the first operand that faults.
+/// Descends to the first operand that faults.
 #[cycle(hunt)]
 fn hunt_in_operands<'a>(
     core: &'a Core,
@@ -238,8 +237,7 @@ fn hunt_in_fields<'a>(
     Ok(false)
 }
 
-/// Goes down to the first condition that faults, or to the value of the first arm whose condition
-/// is TRUE.
+/// Descends to the first condition that faults, or to the value of the first arm whose condition is TRUE.
 #[cycle(hunt)]
 fn hunt_in_arms<'a>(
     arms: &'a [(Core, Core)],
@@ -256,7 +254,7 @@ fn hunt_in_arms<'a>(
     Ok(false)
 }
 
-/// Goes down into a body at the first element at which it faults.
+/// Descends into a body at the first element at which it faults.
 #[cycle(hunt)]
 fn hunt_by_element<'a>(
     body: &'a Core,
@@ -280,7 +278,7 @@ fn hunt_by_element<'a>(
     Ok(false)
 }
 
-/// Goes down into a body at the first elements of these sets at which it faults.
+/// Descends into a body at the first tuple of elements of these sets at which it faults.
 #[cycle(hunt)]
 fn hunt_by_tuple<'a>(
     body: &'a Core,
@@ -310,8 +308,8 @@ fn hunt_by_tuple<'a>(
     Ok(false)
 }
 
-/// Binds the names of a form to the tuple of elements with a number, where the last name changes
-/// fastest; false where there are fewer tuples.
+/// Binds the names of a form to tuple `number` of elements, the last name varying fastest; false if there are fewer
+/// tuples.
 fn bind_tuple(
     core: &Core,
     lists: &[Vec<Value>],
@@ -345,7 +343,7 @@ fn bind_tuple(
     Ok(true)
 }
 
-/// Goes down to the first key or new value of an EXCEPT that faults.
+/// Descends to the first key or new value of an EXCEPT that faults.
 #[cycle(hunt)]
 fn hunt_in_updates<'a>(
     updates: &'a [(Vec<Core>, Core)],
@@ -372,7 +370,7 @@ fn hunt_in_updates<'a>(
     Ok(false)
 }
 
-/// Binds what a function has at the end of a path; false where it has nothing there.
+/// Binds the value of a function at the end of a path; false if there is none.
 fn bind_old_at(
     keys: &[Core],
     function: &Value,
@@ -393,7 +391,7 @@ fn bind_old_at(
     Ok(true)
 }
 
-/// What a function has at an argument.
+/// The value of a function at an argument, if there is one.
 pub(crate) fn value_at<'v>(value: &'v Value, argument: &Value) -> Option<&'v Value> {
     match value {
         Value::Fun(function) => function.apply(argument),
@@ -401,7 +399,7 @@ pub(crate) fn value_at<'v>(value: &'v Value, argument: &Value) -> Option<&'v Val
     }
 }
 
-/// Takes a node for the one whose rule faults, if the fault is at its place.
+/// Records a node as the one that faults, if the fault is at its place.
 pub(crate) fn accuse<'a>(
     core: &'a Core,
     next: &Partial,
@@ -424,7 +422,7 @@ pub(crate) fn accuse<'a>(
     Ok(())
 }
 
-/// Where the rule of a node faults: what is asked for a member may fault at the place of the set.
+/// The place of a fault of a node: a test of membership may fault at the place of the set.
 fn fault_place(core: &Core, place: Option<Place>) -> Place {
     match core {
         Core::Member(_, _, set) | Core::NotMember(_, _, set) | Core::Subset(_, _, set)

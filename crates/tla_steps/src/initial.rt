@@ -6,8 +6,8 @@ use tla_core::{Core, Fault};
 use tla_eval::Partial;
 use tla_value::{State, Value};
 
-/// The states of an initial predicate, each as often as it is read; none if it faults. The only error is that memory
-/// ran out.
+/// The states of an initial predicate, possibly with duplicates; none if it faults. The only error is that memory ran
+/// out.
 pub fn initial_states(alloc: Global, init: &Core, variables: usize) -> Result<Vec<State>, Fault> {
     let mut walk = Walk::new(alloc, None, 1);
     let unset = Partial::unset(alloc, variables)?;
@@ -23,7 +23,7 @@ pub fn initial_states(alloc: Global, init: &Core, variables: usize) -> Result<Ve
     Ok(states)
 }
 
-/// The values of the variables; none where one has no value.
+/// The values of the variables; none if one has no value.
 fn values_of(alloc: Global, partial: Partial) -> Result<Option<Vec<Value>>, Fault> {
     let mut values = Vec::new(alloc);
     for value in partial.into_values() {
@@ -35,8 +35,8 @@ fn values_of(alloc: Global, partial: Partial) -> Result<Option<Vec<Value>>, Faul
     Ok(Some(values))
 }
 
-/// Whether a predicate is FALSE at each of these states, of which there is one at least. The only
-/// error is that memory ran out.
+/// Whether a predicate is FALSE at each of these states, and there is at least one. The only error is that memory ran
+/// out.
 pub fn is_false_in_all(alloc: Global, predicate: &Core, states: &[State]) -> Result<bool, Fault> {
     let next = Partial::unset(alloc, 0)?;
     for state in states {

@@ -86,12 +86,12 @@ fn gather_arms(
     Ok(())
 }
 
-/// The number of the first conjunct that may set a variable.
+/// The index of the first conjunct that may set a variable.
 fn setting(parts: &[Core], variable: usize) -> Option<usize> {
     parts.iter().position(|part| may_set(part, variable))
 }
 
-/// Whether each way through a part sets the variable.
+/// Whether every path through a part sets the variable.
 #[cycle(sets)]
 fn sets_always(part: &Core, variable: usize) -> bool {
     match part {
@@ -140,7 +140,7 @@ fn arms_set(arms: &[(Core, Core)], variable: usize) -> bool {
     true
 }
 
-/// Whether a way through a part sets the variable.
+/// Whether some path through a part sets the variable.
 #[cycle(may_set)]
 pub fn may_set(part: &Core, variable: usize) -> bool {
     match part {
@@ -182,8 +182,8 @@ fn is_next(core: &Core, variable: usize) -> bool {
     matches!(core, Core::Next(_, set) if *set == variable)
 }
 
-/// A part that leaves a variable without a next value, and the values that the `\E` above it chose,
-/// the outermost first.
+/// A part that leaves a variable without a next value, and the values that the `\E` above it chose, the outermost
+/// first.
 #[derive(Drop)]
 pub struct LackingPart<'a> {
     pub part: &'a Core,
@@ -197,8 +197,8 @@ struct Lack<'a> {
     found: Option<LackingPart<'a>>,
 }
 
-/// The first part of an action that leads to a state in which a variable has no next value, as far
-/// as `budget` evaluations show it. The only error is that memory ran out.
+/// The first part of an action that leads to a state in which a variable has no next value, if at most `budget`
+/// evaluations find it. The only error is that memory ran out.
 pub fn lacking_part<'a>(
     alloc: Global,
     action: &'a Core,
@@ -217,7 +217,7 @@ pub fn lacking_part<'a>(
     Ok(lack.found)
 }
 
-/// Goes through the parts under disjunctions and `\E`.
+/// Searches the parts under disjunctions and `\E`.
 #[cycle(lack)]
 fn find_lack<'a>(
     part: &'a Core,
@@ -272,7 +272,7 @@ fn leads_to_lack(
     }
 }
 
-/// Goes down into the conjunct that sets the variable, or into the branch that is taken.
+/// Descends into the conjunct that sets the variable, or into the branch that is taken.
 #[cycle(lack)]
 fn find_below<'a>(
     part: &'a Core,
@@ -314,8 +314,7 @@ fn find_in_disjuncts<'a>(
     Ok(())
 }
 
-/// Goes down into the first conjunct that may set the variable, from the states that those before
-/// it lead to.
+/// Descends into the first conjunct that may set the variable, from the states that those before it lead to.
 #[cycle(lack)]
 fn find_in_conjuncts<'a>(
     parts: &'a [Core],
@@ -350,7 +349,7 @@ fn find_from_each<'a>(
     Ok(())
 }
 
-/// Goes down into the arm that is taken; false where no condition is TRUE.
+/// Descends into the arm that is taken; false if no condition is TRUE.
 #[cycle(lack)]
 fn find_in_arm<'a>(
     arms: &'a [(Core, Core)],

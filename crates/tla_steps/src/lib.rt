@@ -2,8 +2,8 @@
 //! next value, which decide that the whole is FALSE, which stop an action, and which fault; and which updates of EXCEPT
 //! change nothing.
 //!
-//! A part of an action is what its disjunctions and its `\E` lead to, as TLC names its actions. If only one conjunct
-//! leads to such parts, they are the parts.
+//! The parts of an action are the disjuncts and bodies under its disjunctions and `\E`, as TLC names its actions. If
+//! only one conjunct of a conjunction has such parts, they are the parts of the conjunction.
 #![tactic(auto)]
 
 mod action;

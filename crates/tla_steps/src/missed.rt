@@ -11,14 +11,13 @@ use tla_value::{State, Value};
 #[derive(Drop)]
 pub struct Missed<'a> {
     pub except: &'a Core,
-    /// What has no value at the argument.
+    /// The function that has no value at the argument.
     pub function: Value,
     pub argument: Value,
 }
 
-/// Adds the updates that change nothing in a step of an action, one for each EXCEPT, as far as
-/// `budget` evaluations show them. Only next values that are an EXCEPT are looked at. The only error
-/// is that memory ran out.
+/// Adds the updates that change nothing in a step of an action, one for each EXCEPT, with at most `budget` evaluations.
+/// Examines only next values that are an EXCEPT. The only error is that memory ran out.
 pub fn add_missed<'a>(
     alloc: Global,
     action: &'a Core,
@@ -33,7 +32,7 @@ pub fn add_missed<'a>(
     outcome
 }
 
-/// Whether a next value is an EXCEPT in an action.
+/// Whether some next value in an action is an EXCEPT.
 #[cycle(update)]
 pub fn has_update(part: &Core) -> bool {
     match part {
@@ -71,7 +70,7 @@ fn is_update(value: &Core) -> bool {
     }
 }
 
-/// Goes through the parts that are TRUE.
+/// Searches the parts that are TRUE.
 #[cycle(missed)]
 fn find_missed<'a>(
     part: &'a Core,
@@ -99,7 +98,7 @@ fn find_missed<'a>(
     }
 }
 
-/// Goes into a conjunction or an equality that is TRUE.
+/// Searches a conjunction or an equality that is TRUE.
 #[cycle(missed)]
 fn find_if_true<'a>(
     part: &'a Core,
@@ -219,7 +218,7 @@ fn find_in_updates<'a>(
     Ok(())
 }
 
-/// Follows a path into a function, and binds what is at its end; false where there is nothing.
+/// Follows a path into a function, and binds the value at its end; false if there is none.
 fn follow<'a>(
     path: &[Core],
     except: &'a Core,

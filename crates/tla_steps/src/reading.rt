@@ -7,8 +7,8 @@ use tla_eval::Partial;
 use tla_reading::is_unset;
 use tla_value::State;
 
-/// The node at which the reading of an action faults, as far as `budget` evaluations show it. The
-/// only error is that memory ran out.
+/// The node at which the reading of an action faults, if at most `budget` evaluations find it. The only error is that
+/// memory ran out.
 pub fn culprit_of_reading<'a>(
     alloc: Global,
     action: &'a Core,
@@ -23,7 +23,7 @@ pub fn culprit_of_reading<'a>(
     Ok(hunt.into_culprit())
 }
 
-/// Goes down from a part whose reading faults.
+/// Descends from a part whose reading faults.
 #[cycle(reading)]
 fn hunt_in_reading<'a>(
     part: &'a Core,
@@ -40,7 +40,7 @@ fn hunt_in_reading<'a>(
     Ok(())
 }
 
-/// Whether a part is evaluated, and isn't read part by part.
+/// Whether a part is evaluated as a whole, not read part by part.
 fn is_evaluated(part: &Core, from: &Partial) -> bool {
     match part {
         Core::Destructure(_, _, _) => false,
@@ -63,7 +63,7 @@ pub(crate) fn is_unset_next(core: &Core, from: &Partial) -> bool {
     }
 }
 
-/// Goes down to the first part that faults; false where none does.
+/// Descends to the first part that faults; false if none does.
 #[cycle(reading)]
 fn hunt_in_steps<'a>(
     part: &'a Core,
@@ -102,7 +102,7 @@ fn hunt_in_steps<'a>(
     }
 }
 
-/// Goes down from a part, if its reading faults; false where it doesn't.
+/// Descends from a part, if its reading faults; else returns false.
 #[cycle(reading)]
 fn hunt_if_faulty<'a>(
     part: &'a Core,
@@ -141,8 +141,7 @@ fn one(from: &Partial, hunt: &Hunt<'_, '_>) -> Result<Vec<Partial>, Fault> {
     Ok(states)
 }
 
-/// The states that a part leads to from these; none where its reading has the fault, and it was
-/// gone down.
+/// The states that a part leads to from these. If its reading has the fault, descends, and returns none.
 #[cycle(reading)]
 fn hunt_or_read<'a>(
     part: &'a Core,
@@ -181,7 +180,7 @@ fn hunt_in_line<'a>(
     Ok(false)
 }
 
-/// Goes down into the first condition that faults, or into the first arm whose condition is TRUE.
+/// Descends into the first condition that faults, or into the first arm whose condition is TRUE.
 #[cycle(reading)]
 fn hunt_in_arms<'a>(
     arms: &'a [(Core, Core)],

@@ -8,42 +8,42 @@ use tla_core::{Core, Fault, Opening, Place, Unary};
 use tla_eval::Partial;
 use tla_value::{State, Value};
 
-/// At how many elements it is shown why a `\E` is FALSE.
+/// For how many elements the reason why a `\E` is FALSE is shown.
 const MOST_ELEMENTS: usize = 3;
 
-/// What is found of a part that decides.
+/// The result of a deciding part.
 #[derive(Clone, Copy, Debug, PartialEq, Eq)]
 pub enum Verdict {
     True,
     False,
-    /// The set from which it chooses has no element.
+    /// The set of a quantifier is empty.
     NoElement,
 }
 
 /// An operand of a node, and its value.
 #[derive(Drop)]
 pub struct Operand<'a> {
-    /// Which operand it is, from 0.
+    /// The index of the operand.
     pub number: usize,
     pub core: &'a Core,
     pub value: Value,
 }
 
-/// A part that decides, and that has no parts which decide it.
+/// A part that decides the truth value of the whole, and has no deciding parts itself.
 #[derive(Drop)]
 pub struct Reason<'a> {
     pub part: &'a Core,
     pub verdict: Verdict,
-    /// The values of the names that are bound around it, the outermost first.
+    /// The values of the bound names in scope, the outermost first.
     pub chosen: Vec<Chosen>,
-    /// The sides of a comparison, or the set from which is chosen.
+    /// The sides of a comparison, or the set of a quantifier.
     pub operands: Vec<Operand<'a>>,
-    /// What keeps the left side of a membership out of the right side.
+    /// Why the left side of a membership isn't in the right side.
     pub stray: Option<Stray<'a>>,
 }
 
-/// The parts for which a state predicate is FALSE, as far as `budget` evaluations show them. The
-/// only error is that memory ran out.
+/// The parts because of which a state predicate is FALSE, with at most `budget` evaluations. The only error is that
+/// memory ran out.
 pub fn reasons_against<'a>(
     alloc: Global,
     predicate: &'a Core,
@@ -74,7 +74,7 @@ pub(crate) fn find_reasons<'a>(
     Ok(())
 }
 
-/// Finds why a part has this truth value in its own parts; false where none of them decides.
+/// Finds why a part has this truth value in its own parts; false if none of them decides.
 #[cycle(reasons)]
 fn find_in_parts<'a>(
     part: &'a Core,
@@ -112,7 +112,7 @@ fn find_in_parts<'a>(
     }
 }
 
-/// Finds why the branch of IF or CASE that is taken has this truth value; false where none is.
+/// Finds why the branch of IF or CASE that is taken has this truth value; false if none is taken.
 #[cycle(reasons)]
 fn find_in_branch<'a>(
     part: &'a Core,
@@ -139,7 +139,7 @@ fn find_in_branch<'a>(
     }
 }
 
-/// Finds why a part has this truth value; false where it hasn't.
+/// Finds why a part has this truth value; false if it hasn't.
 #[cycle(reasons)]
 fn find_if_is<'a>(
     part: &'a Core,
@@ -188,7 +188,7 @@ fn find_in_each<'a>(
     Ok(some)
 }
 
-/// Finds why the arm that is taken has this truth value; none where no condition is TRUE.
+/// Finds why the arm that is taken has this truth value; none if no condition is TRUE.
 #[cycle(reasons)]
 fn find_in_arm<'a>(
     arms: &'a [(Core, Core)],
@@ -260,7 +260,7 @@ fn find_by_each<'a>(
     Ok(true)
 }
 
-/// Finds why the body has this truth value under the items of elements.
+/// Finds why the body has this truth value under the items of destructured elements.
 #[cycle(reasons)]
 fn find_by_items<'a>(
     body: &'a Core,
@@ -280,7 +280,7 @@ fn find_by_items<'a>(
     outcome
 }
 
-/// A part that decides, with the values of its operands.
+/// A deciding part, with the values of its operands.
 pub(crate) fn reason_at<'a>(
     part: &'a Core,
     verdict: Verdict,
@@ -327,7 +327,7 @@ pub(crate) fn add_operand<'a>(
     Ok(())
 }
 
-/// The set that an operand counts, unless it is a variable, which the state shows.
+/// The set S, if the operand is `Cardinality(S)` and S is no variable, which the state shows.
 fn counted_set(operand: Option<&Core>) -> Option<&Core> {
     match operand {
         Some(Core::Unary(_, Unary::Cardinality, set)) => match set.as_ref() {
@@ -338,7 +338,7 @@ fn counted_set(operand: Option<&Core>) -> Option<&Core> {
     }
 }
 
-/// The operands of which a reader wants to see the values.
+/// The operands whose values are shown.
 pub(crate) fn shown_operands(part: &Core) -> (Option<&Core>, Option<&Core>) {
     match part {
         Core::Equal(_, left, right) | Core::Binary(_, _, left, right) => {
@@ -353,7 +353,7 @@ pub(crate) fn shown_operands(part: &Core) -> (Option<&Core>, Option<&Core>) {
     }
 }
 
-/// A set, if it isn't one that takes long to make or that its text shows.
+/// A set, unless it takes long to build or its text shows it.
 fn shown_set(set: &Core) -> Option<&Core> {
     match set {
         Core::Constant(_, _)

@@ -1,22 +1,20 @@
-//! What keeps a value out of a set: the element or the part of it that isn't where it should be.
+//! Why a value isn't in a set: the element or the part of it that isn't in the set where it should be.
 
 use crate::walk::Walk;
 use tla_core::{Core, Fault, memory};
 use tla_eval::Partial;
 use tla_value::{Arguments, FunValue, Text, Value};
 
-/// An element of a value, or what it has at an argument, that isn't in the set that it should be
-/// in.
+/// An element of a set, or a value of a function, that isn't in the set where it should be.
 #[derive(Drop)]
 pub struct Stray<'a> {
-    /// The argument; none where it is an element.
+    /// The argument; none for an element.
     pub at: Option<Value>,
     pub value: Value,
     pub set: &'a Core,
 }
 
-/// What keeps the left side of a membership that is FALSE out of the right side, where that is
-/// found by its parts.
+/// Why the left side of a membership that is FALSE isn't in the right side, if a part of it shows that.
 pub(crate) fn stray_in<'a>(
     part: &'a Core,
     next: &Partial,
@@ -35,7 +33,7 @@ pub(crate) fn stray_in<'a>(
     }
 }
 
-/// What keeps a value out of a set of sets, of functions, of records or of sequences.
+/// Why a value isn't in a set of sets, of functions, of records or of sequences.
 fn stray_of<'a>(
     value: &Value,
     set: &'a Core,
@@ -98,7 +96,6 @@ fn stray_value<'a>(
     Ok(None)
 }
 
-/// The argument of a function with an index.
 fn argument_at(
     function: &FunValue,
     index: usize,

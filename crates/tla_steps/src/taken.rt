@@ -1,4 +1,4 @@
-//! The parts that a step makes true.
+//! The parts of an action that are TRUE of a step.
 
 use crate::action::{Action, ActionPart, leading_conjunct};
 use crate::chosen::Taken;
@@ -8,17 +8,17 @@ use tla_core::{Core, Fault, Opening, Place, memory};
 use tla_eval::Partial;
 use tla_value::State;
 
-/// A step whose parts are looked for.
+/// A step whose parts are searched for.
 #[derive(Clone, Copy)]
 struct Step<'a> {
     next: &'a Partial,
     action: Action<'a>,
-    /// The conjunction that the search went into last.
+    /// The innermost conjunction that the search entered.
     within: Option<Place>,
 }
 
 impl<'a> Step<'a> {
-    /// The same step, once the search went into the conjunction at a place.
+    /// The same step, inside the conjunction at a place.
     fn inside(&self, place: Place) -> Step<'a> {
         Step {
             next: self.next,
@@ -27,7 +27,7 @@ impl<'a> Step<'a> {
         }
     }
 
-    /// Whether a part isn't looked for.
+    /// Whether a part is skipped.
     fn skips(&self, part: &Core) -> bool {
         self.action.skipped.contains(&ActionPart {
             place: part.place(),
@@ -51,9 +51,8 @@ pub fn next_values(alloc: Global, state: &State) -> Result<Partial, Fault> {
     Ok(next)
 }
 
-/// The parts of an action that are TRUE of a step, in the order of the text, as far as `budget`
-/// evaluations show them. A part whose value is a fault isn't TRUE. The only error is that memory
-/// ran out.
+/// The parts of an action that are TRUE of a step, in the order of the text, with at most `budget` evaluations. A part
+/// that faults isn't TRUE. The only error is that memory ran out.
 pub fn taken_parts(
     alloc: Global,
     action: Action<'_>,
@@ -138,7 +137,7 @@ fn find_by_element(
     Ok(())
 }
 
-/// Looks at the body under the items of elements, if each has as many as its pattern has names.
+/// Searches the body under the items of destructured elements, if each element fits its pattern.
 #[cycle(taken)]
 fn find_by_items(
     body: &Core,

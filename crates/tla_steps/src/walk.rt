@@ -1,4 +1,4 @@
-//! Evaluation of parts under bound names, as far as a number of evaluations goes.
+//! Evaluation of parts under bound names, with a limited number of evaluations.
 
 use crate::chosen::{Chosen, Path};
 use std::alloc::Global;
@@ -7,7 +7,7 @@ use tla_eval::{Partial, eval, member, opened, set_members};
 use tla_reading::{plain_part_of, read};
 use tla_value::{State, Value};
 
-/// The present state, the values of the bound names, and how many evaluations are left.
+/// The present state, the values of the bound names, and the number of evaluations left.
 ///
 /// The only error of its calls is that memory ran out. They return None if the evaluation faults, or if no evaluation
 /// is left.
@@ -33,17 +33,17 @@ impl<'a> Walk<'a> {
         self.alloc
     }
 
-    /// How many evaluations are left.
+    /// The number of evaluations left.
     pub(crate) fn budget(&self) -> u64 {
         self.budget
     }
 
-    /// How many names are bound.
+    /// The number of bound names.
     pub(crate) fn len(&self) -> usize {
         self.path.len()
     }
 
-    /// Unbinds all names but the first ones.
+    /// Unbinds all names but the first `count`.
     pub(crate) fn truncate(&mut self, count: usize) {
         self.path.truncate(count);
     }
@@ -75,7 +75,7 @@ impl<'a> Walk<'a> {
         }
     }
 
-    /// Binds the items of elements; false where one hasn't as many as its pattern has names.
+    /// Binds the items of destructured elements; false if one doesn't fit its pattern.
     pub(crate) fn open(&mut self, place: Place, openings: &[Opening]) -> Result<bool, Fault> {
         let items = match opened(self.alloc, place, openings, self.path.values()) {
             Ok(items) => items,
@@ -91,7 +91,7 @@ impl<'a> Walk<'a> {
         Ok(true)
     }
 
-    /// The bound names that occur in the text, the outermost first.
+    /// The values of the bound names that occur in the text, the outermost first.
     pub(crate) fn bound_choices(&self) -> Result<Vec<Chosen>, Fault> {
         self.path.named_choices(self.alloc)
     }

@@ -8,7 +8,7 @@ use tla_lex::Kind;
 
 const ARMS: &str = "the arms are written CASE p -> e [] q -> f [] OTHER -> g";
 
-/// Finds what is wrong with the signs of a CASE.
+/// Finds what is wrong with the symbols of a CASE.
 pub(crate) fn find(finding: &mut Finding, spot: &Spot<'_>) -> bool {
     let Some(has_arrow) = arm_before(spot) else {
         return false;
@@ -33,7 +33,7 @@ fn ends_before(spot: &Spot<'_>, kind: Kind) -> bool {
     begins_unit(kind) || (spot.begins_line(spot.at) && spot.is_head(spot.at))
 }
 
-/// Finds that `[]` is missing before an arm of CASE, which begins at a token.
+/// Finds that `[]` is missing before an arm of CASE that begins at a token.
 pub(crate) fn find_arm(finding: &mut Finding, spot: &Spot<'_>) -> bool {
     let is_arm = arm_before(spot) == Some(true) && arrow_follows(spot);
     if is_arm {
@@ -54,7 +54,7 @@ fn arrow_follows(spot: &Spot<'_>) -> bool {
     same.any(|token| token.kind == Kind::Arrow)
 }
 
-/// Whether the arm of CASE before a token has its arrow; none where no CASE is before it.
+/// Whether the arm of CASE before a token has its arrow; none if no CASE is before it.
 fn arm_before(spot: &Spot<'_>) -> Option<bool> {
     let mut deep: usize = 0;
     let mut has_arrow = false;

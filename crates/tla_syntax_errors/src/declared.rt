@@ -1,11 +1,11 @@
-//! Signs after the word of a declaration, and names of a list that get a value there.
+//! Wrong symbols in declarations: a colon after the keyword, or a value for a name of a list.
 
 use crate::heads::begins_list;
 use tla_finding::finding::Finding;
 use tla_finding::spot::Spot;
 use tla_lex::Kind;
 
-/// Finds a colon after the word of a unit, or a sign that gives a value to a name of a list.
+/// Finds a colon after the keyword of a unit, or a symbol that assigns a value to a name of a list.
 pub(crate) fn find(finding: &mut Finding, spot: &Spot<'_>) -> bool {
     match spot.kind(spot.at) {
         Some(Kind::Colon) => find_colon(finding, spot),
@@ -15,7 +15,7 @@ pub(crate) fn find(finding: &mut Finding, spot: &Spot<'_>) -> bool {
     }
 }
 
-/// Finds a colon right after the word of a unit.
+/// Finds a colon right after the keyword of a unit.
 fn find_colon(finding: &mut Finding, spot: &Spot<'_>) -> bool {
     let is_word = matches!(
         spot.back(1),
@@ -29,14 +29,14 @@ fn find_colon(finding: &mut Finding, spot: &Spot<'_>) -> bool {
     is_word
 }
 
-/// Whether the word of a list, a name and the token are in one line.
+/// Whether the keyword of a list, a name and the token are in one line.
 fn is_one_line(spot: &Spot<'_>) -> bool {
     let word = spot.at.saturating_sub(2);
     matches!(spot.kind(word), Some(Kind::Variable | Kind::Constant))
         && spot.place(word).line == spot.place(spot.at).line
 }
 
-/// Finds that a name of a list is given a value.
+/// Finds that a value is assigned to a name of a list.
 fn find_value(finding: &mut Finding, spot: &Spot<'_>) -> bool {
     let Some(word) = list_word(spot) else {
         return false;
@@ -64,7 +64,7 @@ fn find_value(finding: &mut Finding, spot: &Spot<'_>) -> bool {
     true
 }
 
-/// The number of the word of the list of names in which a token is.
+/// The index of the keyword of the list of names that contains a token.
 fn list_word(spot: &Spot<'_>) -> Option<usize> {
     if spot.back(1) != Some(Kind::Name) || !begins_list(spot, spot.at) {
         return None;

@@ -1,4 +1,4 @@
-//! Names that begin a unit where none was meant, and heads of definitions.
+//! Names that begin a unit unintentionally, and heads of definitions.
 
 use crate::cases;
 use crate::kinds::ends_operand;
@@ -14,18 +14,18 @@ use tla_hints::{
 use tla_lex::{Kind, Token};
 use tla_parse::parse_module;
 
-/// The number of the first token of a module's units, after its name and a separator.
+/// The index of the first token of a module's units, after its name and a separator.
 const FIRST_UNIT: usize = 2;
 
-/// A name that begins a unit, or a definition of LET, and where the first of these begins.
+/// A name that begins a unit or a definition of LET, and where the first unit or definition begins.
 #[derive(Clone, Copy)]
 struct Head {
     from: usize,
     at: usize,
 }
 
-/// Finds what is missing at the name that begins a unit, or a definition of LET, and after which
-/// the token can't be. Answers whether there is such a name.
+/// Finds what is missing at the name that begins a unit, or a definition of LET, and that the token can't follow.
+/// Returns whether there is such a name.
 pub(crate) fn find(finding: &mut Finding, spot: &Spot<'_>, open: Option<Open>) -> bool {
     match open_head(finding.alloc(), spot, open) {
         Ok(Some(head)) => {
@@ -48,7 +48,7 @@ pub(crate) fn find(finding: &mut Finding, spot: &Spot<'_>, open: Option<Open>) -
     }
 }
 
-/// The name that begins a unit, of which the parameters are open.
+/// The name that begins a unit and whose parameters are open.
 fn open_head(
     alloc: Global,
     spot: &Spot<'_>,
@@ -96,7 +96,7 @@ fn say_parameters(finding: &mut Finding, spot: &Spot<'_>, head: Head) {
     }
 }
 
-/// The name that begins a unit and, with its parameters, is before this token.
+/// The name that begins a unit and comes, with its parameters, right before this token.
 fn head_of(alloc: Global, spot: &Spot<'_>) -> Result<Option<Head>, AllocError> {
     let (Some(from), Some(at)) = (region(alloc, spot)?, name_before(spot)) else {
         return Ok(None);
@@ -108,8 +108,7 @@ fn head_of(alloc: Global, spot: &Spot<'_>) -> Result<Option<Head>, AllocError> {
     }
 }
 
-/// Where the units begin, or the definitions of the LET that is open; none where something else is
-/// open.
+/// Where the units begin, or the definitions of the open LET; none if something else is open.
 fn region(alloc: Global, spot: &Spot<'_>) -> Result<Option<usize>, AllocError> {
     let Some(open) = innermost_open(alloc, spot.tokens, spot.place(spot.at))? else {
         return Ok(Some(FIRST_UNIT));
@@ -136,7 +135,7 @@ pub(crate) fn name_before(spot: &Spot<'_>) -> Option<usize> {
     }
 }
 
-/// The number of the bracket that the one of this number closes.
+/// The index of the bracket that the one at this index closes.
 fn opening_of(spot: &Spot<'_>, closing: usize) -> Option<usize> {
     let mut deep: usize = 0;
     for count in 0..spot.tokens.len() {
@@ -154,8 +153,7 @@ fn opening_of(spot: &Spot<'_>, closing: usize) -> Option<usize> {
     None
 }
 
-/// Whether the tokens from one number up to another are whole units. The only error is out of
-/// memory.
+/// Whether the tokens from one index up to another are complete units. The only error is that memory ran out.
 fn are_units(alloc: Global, spot: &Spot<'_>, from: usize, to: usize) -> Result<bool, AllocError> {
     let mut tokens: Vec<Token> = Vec::new(alloc);
     tokens.extend_from_slice(spot.tokens.get(..FIRST_UNIT).unwrap_or(&[]))?;
@@ -196,7 +194,7 @@ fn say_between(finding: &mut Finding, spot: &Spot<'_>, head: Head) {
     }
 }
 
-/// The LET of which a name seems to begin a definition.
+/// The LET in which a name seems to begin a definition.
 fn let_of(spot: &Spot<'_>, head: Head) -> Option<Open> {
     if head.from <= FIRST_UNIT {
         return None;
@@ -208,7 +206,7 @@ fn let_of(spot: &Spot<'_>, head: Head) -> Option<Open> {
     })
 }
 
-/// Says what to write for `in`: `\in`, or IN where a LET is before it.
+/// Says what to write for `in`: `\in`, or IN if a LET is before it.
 fn say_in(finding: &mut Finding, spot: &Spot<'_>, head: Head) {
     if let Some(start) = small_let(spot, head.at) {
         finding.say(spot.place(start), &["'let' is no reserved word"]);
@@ -244,12 +242,12 @@ fn small_let(spot: &Spot<'_>, at: usize) -> Option<usize> {
     None
 }
 
-/// Whether a token begins its line no further to the right than the first unit does.
+/// Whether a token begins its line, no further to the right than the first unit.
 pub(crate) fn begins_unit_line(spot: &Spot<'_>, at: usize) -> bool {
     spot.begins_line(at) && spot.place(at).column <= spot.place(FIRST_UNIT).column
 }
 
-/// Whether the innermost that is open before a token is a LET.
+/// Whether the innermost open token before a token is a LET.
 pub(crate) fn is_in_let(finding: &mut Finding, spot: &Spot<'_>) -> bool {
     match innermost_open(finding.alloc(), spot.tokens, spot.place(spot.at)) {
         Ok(open) => open.is_some_and(|open| open.token.kind == Kind::Let),
@@ -269,15 +267,15 @@ fn say_arm(finding: &mut Finding, spot: &Spot<'_>, head: Head) -> bool {
     cases::find_arm(finding, &first)
 }
 
-/// Whether a definition was meant: a name begins its line, no further to the right than the first
-/// unit or definition does, or `=` follows it in a LET.
+/// Whether a definition was meant: a name begins its line, no further to the right than the first unit or definition,
+/// or `=` follows it in a LET.
 fn is_definition(spot: &Spot<'_>, head: Head) -> bool {
     let first = spot.place(head.from).column;
     let is_own_line = spot.begins_line(head.at) && spot.place(head.at).column <= first;
     is_own_line || (head.from > FIRST_UNIT && spot.is(spot.at, Kind::Equal))
 }
 
-/// Whether an operator is defined between its operands: the first is all that its line has before the sign.
+/// Whether a symbol is in the head of an infix definition: its line has one token before it, and `==` after it.
 pub(crate) fn is_infix_definition(spot: &Spot<'_>, sign: usize) -> bool {
     spot.begins_line(sign.saturating_sub(1)) && defines_later(spot, spot.place(sign).line)
 }
@@ -309,7 +307,7 @@ pub(crate) fn say_backslash(finding: &mut Finding, spot: &Spot<'_>, at: usize) -
     true
 }
 
-/// Whether a name goes on with the list of an EXTENDS, VARIABLE or CONSTANT.
+/// Whether a name continues the list of an EXTENDS, VARIABLE or CONSTANT.
 fn is_listed(spot: &Spot<'_>, head: Head) -> bool {
     if spot.is(spot.at, Kind::Equal) || spot.is(spot.at, Kind::Colon) {
         return false;
@@ -318,8 +316,8 @@ fn is_listed(spot: &Spot<'_>, head: Head) -> bool {
     goes_on && begins_list(spot, head.at)
 }
 
-/// Whether only names, commas and blanks of parameters are between a token and the EXTENDS,
-/// VARIABLE or CONSTANT before it.
+/// Whether only names, commas and placeholders of parameters are between a token and the EXTENDS, VARIABLE or CONSTANT
+/// before it.
 pub(crate) fn begins_list(spot: &Spot<'_>, at: usize) -> bool {
     for count in 1..spot.tokens.len() {
         let Some(kind) = at.checked_sub(count).and_then(|index| spot.kind(index)) else {
@@ -365,7 +363,7 @@ fn say_definition(finding: &mut Finding, spot: &Spot<'_>, head: Head) {
     }
 }
 
-/// Says that a word begins a statement of a configuration, and no unit.
+/// Says that a word begins a statement of a configuration, not a unit.
 fn say_statement(finding: &mut Finding, spot: &Spot<'_>, at: usize) -> bool {
     let word = spot.word(at);
     let is_statement = STATEMENTS.contains(&word) || LEFT_OUT.contains(&word);
@@ -405,8 +403,7 @@ fn say_infix(finding: &mut Finding, spot: &Spot<'_>, head: Head) {
     }
 }
 
-/// The LET of which the body begins at a name, as it seems: left of its first definition, or with a
-/// prime.
+/// The LET whose body seems to begin at a name: left of its first definition, or with a prime.
 fn let_without_in(spot: &Spot<'_>, head: Head) -> Option<usize> {
     let is_left = spot.place(head.at).column < spot.place(head.from).column;
     let is_body = head.from > FIRST_UNIT && (is_left || spot.is(spot.at, Kind::Prime));
@@ -417,7 +414,7 @@ fn let_without_in(spot: &Spot<'_>, head: Head) -> Option<usize> {
     }
 }
 
-/// Says that a name begins no unit, where it is near to a reserved word.
+/// Says that a name begins no unit, if it is near to a reserved word.
 fn say_reserved(finding: &mut Finding, spot: &Spot<'_>, at: usize) -> bool {
     let name = spot.word(at);
     let Some(word) = reserved_near(finding, name) else {
@@ -429,7 +426,7 @@ fn say_reserved(finding: &mut Finding, spot: &Spot<'_>, at: usize) -> bool {
     true
 }
 
-/// Says what to write in place of a form, if it is one that is left out.
+/// Says what to write instead of a form, if it is one that isn't supported.
 fn hint_form(finding: &mut Finding, word: &str) {
     if is_form(word)
         && let Some(cure) = form_cure(word)
@@ -455,7 +452,7 @@ pub(crate) fn defines_later(spot: &Spot<'_>, line: u64) -> bool {
         .any(|token| token.kind == Kind::Define)
 }
 
-/// Says that an operator is missing before a token, or a comma, or what is open.
+/// Says that an operator or a comma is missing before a token, or that something is still open.
 pub(crate) fn say_operator(finding: &mut Finding, spot: &Spot<'_>, at: usize, open: Option<Open>) {
     let is_word = hint_words(finding, spot, at);
     let is_listed = !is_word && open.is_some_and(|open| is_list(spot, open));
@@ -483,7 +480,7 @@ pub(crate) fn say_operator(finding: &mut Finding, spot: &Spot<'_>, at: usize, op
     }
 }
 
-/// Whether commas may be in the bracket that is open.
+/// Whether commas may be in the open bracket.
 fn is_list(spot: &Spot<'_>, open: Open) -> bool {
     match open.token.kind {
         Kind::LeftBrace | Kind::LeftTuple | Kind::LeftBracket => true,
@@ -496,8 +493,8 @@ fn is_list(spot: &Spot<'_>, open: Open) -> bool {
     }
 }
 
-/// Hints at what the word before a token, or that token, was meant for. The word is an operator
-/// before its operand if no operand is before it.
+/// Adds a hint on what the word before a token, or that token, was meant for. The word is a prefix operator if no
+/// operand is before it.
 fn hint_words(finding: &mut Finding, spot: &Spot<'_>, at: usize) -> bool {
     let before = spot.word(at.saturating_sub(1));
     let is_prefix = match at.checked_sub(2) {
@@ -531,7 +528,7 @@ fn ask_reserved(finding: &mut Finding, name: &str) -> bool {
     word.is_some()
 }
 
-/// Hints at what two names beside one another were meant for, by what is before them.
+/// Adds a hint on what two adjacent names were meant for, by the tokens before them.
 fn hint_shapes(finding: &mut Finding, spot: &Spot<'_>, at: usize) -> bool {
     let first = spot.word(at.saturating_sub(1));
     let second = spot.word(at);

@@ -1,4 +1,4 @@
-//! What tokens do in expressions and units.
+//! The roles of tokens in expressions and units.
 
 use tla_lex::Kind;
 

@@ -1,11 +1,11 @@
-//! Forms that are left out of the language.
+//! Forms that tlacheck doesn't support.
 
 use tla_finding::finding::Finding;
 use tla_finding::spot::Spot;
 use tla_hints::{MODULES, form_cure, meant, module_cure};
 use tla_lex::Kind;
 
-/// Finds what to write in place of a form that is left out.
+/// Finds what to write instead of a form that isn't supported.
 pub fn find(finding: &mut Finding, spot: &Spot<'_>, name: &str) {
     let place = spot.place(spot.at);
     if spot.is(spot.at, Kind::Bang) {
@@ -72,7 +72,7 @@ fn is_extended(spot: &Spot<'_>) -> bool {
     false
 }
 
-/// Finds what to write in place of a module that can't be extended.
+/// Finds what to write instead of a module that can't be extended.
 fn find_module(finding: &mut Finding, spot: &Spot<'_>, name: &str) {
     finding.say(
         spot.place(spot.at),

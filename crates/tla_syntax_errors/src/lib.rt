@@ -1,5 +1,5 @@
-//! Explanations of syntax errors of a module: tokens that can't be where they are, operators that
-//! need parentheses, and forms that are left out.
+//! Explanations of syntax errors of a module: unexpected tokens, operators that need parentheses, and forms that
+//! tlacheck doesn't support.
 #![tactic(auto)]
 
 mod cases;

@@ -17,7 +17,7 @@ pub(crate) fn find(finding: &mut Finding, spot: &Spot<'_>, open: Option<Open>) -
     }
 }
 
-/// Finds that a list of names before a definition ends with a comma, or has no name.
+/// Finds that a list of names before a definition ends with a comma, or is empty.
 fn find_name(finding: &mut Finding, spot: &Spot<'_>) -> bool {
     let Some(last) = spot.at.checked_sub(2) else {
         return false;
@@ -38,7 +38,7 @@ fn find_name(finding: &mut Finding, spot: &Spot<'_>) -> bool {
     true
 }
 
-/// Finds a definition without a name, or one before which an expression isn't finished.
+/// Finds a definition without a name, or one before which an expression is incomplete.
 fn find_unfinished(finding: &mut Finding, spot: &Spot<'_>) -> bool {
     if spot.begins_line(spot.at) {
         finding.say(spot.place(spot.at), &["a name is missing before '=='"]);
@@ -85,7 +85,7 @@ fn find_comma(finding: &mut Finding, spot: &Spot<'_>) -> bool {
     true
 }
 
-/// Finds that the bracket of a record was taken for the argument of what is before it.
+/// Finds that the bracket of a record was parsed as an argument of the expression before it.
 fn find_applied(finding: &mut Finding, spot: &Spot<'_>, open: Option<Open>) -> bool {
     let Some(index) = open.and_then(|open| spot.index_at(open.token.place)) else {
         return false;

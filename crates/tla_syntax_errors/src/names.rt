@@ -1,15 +1,15 @@
-//! The reserved word that was probably meant, and forms that are left out.
+//! The reserved word that was probably meant, and forms that tlacheck doesn't support.
 
 use std::alloc::{AllocError, Global};
 use tla_hints::{RESERVED, meant};
 
-/// Reserved words of forms that are left out.
+/// Reserved words of forms that aren't supported.
 const FORMS: [&str; 4] = ["INSTANCE", "RECURSIVE", "LAMBDA", "LEMMA"];
 
-/// The shortest name to which a nearest reserved word is looked for.
+/// The shortest name for which a nearest reserved word is searched.
 const SHORTEST_WORD: usize = 4;
 
-/// The reserved word that was probably meant by a name, in letters of either case.
+/// The reserved word that was probably meant by a name, ignoring case.
 pub(crate) fn near_reserved(alloc: Global, name: &str) -> Result<Option<&'static str>, AllocError> {
     for word in RESERVED.iter().chain(FORMS.iter()) {
         if *word == name {
@@ -29,7 +29,7 @@ pub(crate) fn near_reserved(alloc: Global, name: &str) -> Result<Option<&'static
     meant(alloc, name, &FORMS)
 }
 
-/// Whether a word begins a form that is left out.
+/// Whether a word begins a form that isn't supported.
 pub(crate) fn is_form(word: &str) -> bool {
     FORMS.contains(&word)
 }

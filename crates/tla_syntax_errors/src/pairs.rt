@@ -1,4 +1,4 @@
-//! Operators of other languages, which are read as two tokens or as another operator.
+//! Operators of other languages, which the lexer takes for two tokens or for another operator.
 
 use crate::heads::defines_later;
 use crate::kinds::ends_operand;
@@ -43,7 +43,7 @@ pub(crate) fn find(finding: &mut Finding, spot: &Spot<'_>, open: Option<Open>) -
     cure.is_some()
 }
 
-/// What to write for a token and the one directly before it.
+/// What to write for a token and the one that it touches before it.
 fn joined_before(spot: &Spot<'_>) -> Option<Cure> {
     let before = spot.back(1)?;
     if !spot.touches_before(spot.at) {
@@ -68,7 +68,7 @@ fn joined_before(spot: &Spot<'_>) -> Option<Cure> {
     }
 }
 
-/// What to write for a token and the one that directly follows it.
+/// What to write for a token and the one that it touches after it.
 fn joined_after(spot: &Spot<'_>) -> Option<Cure> {
     let next = spot.ahead(1)?;
     if !spot.touches_before(spot.at.saturating_add(1)) {
@@ -150,7 +150,7 @@ fn cure_misplaced(spot: &Spot<'_>) -> Option<Cure> {
     }
 }
 
-/// What to write for an operator that is no part of a bracket.
+/// What to write for an operator that is in no bracket.
 fn cure_outside(spot: &Spot<'_>) -> Option<Cure> {
     match spot.kind(spot.at)? {
         Kind::Arrow => Some(("'->' is no operator", "write a => b for implies")),

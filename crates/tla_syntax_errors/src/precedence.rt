@@ -1,4 +1,4 @@
-//! Operators beside one another of which neither binds tighter.
+//! Adjacent operators with overlapping precedences.
 
 use crate::kinds::ends_operand;
 use tla_finding::finding::Finding;
@@ -6,17 +6,17 @@ use tla_finding::spot::Spot;
 use tla_hints::{closes_bracket, opens_bracket};
 use tla_lex::Kind;
 
-/// How tight an operator binds, at least and at most.
+/// The precedence range of an operator.
 #[derive(Clone, Copy, PartialEq, Eq)]
 struct Range {
     low: u8,
     high: u8,
 }
 
-/// The range of the operators that compare two values.
+/// The range of the comparison operators.
 const COMPARES: Range = Range { low: 5, high: 5 };
 
-/// Finds the operator before this one that binds neither tighter nor less tight.
+/// Finds the operator before this one whose precedence range overlaps.
 pub fn find(finding: &mut Finding, spot: &Spot<'_>) {
     let Some(range) = infix_range(spot.kind(spot.at)) else {
         return;
@@ -60,7 +60,7 @@ fn say_proof(finding: &mut Finding, spot: &Spot<'_>) {
     finding.hint(&["remove the proof; THEOREM itself may stay"]);
 }
 
-/// Whether an operator before this token can't be on its left.
+/// Whether no operator before this token can conflict with one after it.
 fn ends_search(kind: Kind) -> bool {
     opens_bracket(kind)
         || matches!(
@@ -79,7 +79,7 @@ fn meets(spot: &Spot<'_>, index: usize, range: Range) -> bool {
     own.is_some_and(|own| own.low <= range.high && range.low <= own.high)
 }
 
-/// Whether an operator is between two operands, and is no bullet of a list.
+/// Whether an operator is infix, and no bullet of a list.
 fn is_infix(spot: &Spot<'_>, index: usize) -> bool {
     let is_bullet = matches!(spot.kind(index), Some(Kind::And | Kind::Or))
         && spot.begins_line(index);

@@ -1,4 +1,4 @@
-//! Signs that are written otherwise in this language.
+//! Symbols that TLA+ writes differently.
 
 use crate::heads::begins_unit_line;
 use crate::kinds::ends_operand;
@@ -10,7 +10,7 @@ use tla_lex::Kind;
 /// What is wrong, and what to write.
 type Cure = (&'static str, &'static str);
 
-/// Finds a sign that is written otherwise.
+/// Finds a symbol that TLA+ writes differently.
 pub(crate) fn find(finding: &mut Finding, spot: &Spot<'_>, open: Option<Open>) -> bool {
     let by_token = cure_of(spot).or(cure_after(spot));
     let cure = match open {
@@ -24,7 +24,7 @@ pub(crate) fn find(finding: &mut Finding, spot: &Spot<'_>, open: Option<Open>) -
     cure.is_some()
 }
 
-/// What to write in place of a token, by itself and the one after it.
+/// What to write instead of a token, by itself and the one after it.
 fn cure_of(spot: &Spot<'_>) -> Option<Cure> {
     let next = spot.at.saturating_add(1);
     let touches = spot.touches_before(next);
@@ -65,7 +65,7 @@ fn cure_of(spot: &Spot<'_>) -> Option<Cure> {
     }
 }
 
-/// What to write in place of a token, by those before it.
+/// What to write instead of a token, by those before it.
 fn cure_after(spot: &Spot<'_>) -> Option<Cure> {
     let is_number = matches!(spot.kind(spot.at)?, Kind::Number(_));
     let after_number = matches!(spot.back(2), Some(Kind::Number(_)));
@@ -99,8 +99,8 @@ fn cure_after(spot: &Spot<'_>) -> Option<Cure> {
     }
 }
 
-/// What to write in place of a token inside what is open: `->` or `:` for `|->`, or a comma between
-/// definitions of LET.
+/// What to write instead of a token inside an open bracket or LET: for `->` or `:` in place of `|->`, or a comma
+/// between definitions.
 fn cure_inside(spot: &Spot<'_>, open: Open) -> Option<Cure> {
     let opening = open.token;
     let kind = spot.kind(spot.at)?;
@@ -138,7 +138,7 @@ fn is_field(spot: &Spot<'_>) -> bool {
     spot.back(2) == Some(Kind::Dot)
 }
 
-/// What to write in brackets where a comma comes, or the end, and nothing was begun yet.
+/// What to write in brackets with an unexpected comma or end.
 fn cure_in_brackets(spot: &Spot<'_>, open: Open) -> Cure {
     if follows_head(spot, open) {
         (
@@ -169,7 +169,7 @@ fn cure_in_brackets(spot: &Spot<'_>, open: Open) -> Cure {
     }
 }
 
-/// Whether a name that begins a unit is before the bracket that is open.
+/// Whether a name that begins a unit is before the open bracket.
 fn follows_head(spot: &Spot<'_>, open: Open) -> bool {
     let index = spot.index_at(open.token.place);
     let before = index.and_then(|index| index.checked_sub(1));
@@ -179,14 +179,14 @@ fn follows_head(spot: &Spot<'_>, open: Open) -> bool {
     }
 }
 
-/// Whether UNCHANGED is before the bracket that is open.
+/// Whether UNCHANGED is before the open bracket.
 fn follows_unchanged(spot: &Spot<'_>, open: Open) -> bool {
     let index = spot.index_at(open.token.place);
     let before = index.and_then(|index| index.checked_sub(1));
     before.is_some_and(|before| spot.is(before, Kind::Unchanged))
 }
 
-/// Whether `[]` touches the bracket that is open.
+/// Whether `[]` touches the open bracket.
 fn follows_box(spot: &Spot<'_>, open: Open) -> bool {
     for token in spot.tokens {
         if token.end == open.token.start {
@@ -196,7 +196,7 @@ fn follows_box(spot: &Spot<'_>, open: Open) -> bool {
     false
 }
 
-/// Whether a comma, or the end, follows a sign in the bracket that is open.
+/// Whether a comma, or the end, follows a symbol in the open bracket.
 fn is_after(spot: &Spot<'_>, open: Open, sign: Kind) -> bool {
     let before = spot.tokens.get(..spot.at).unwrap_or(&[]);
     let mut inside = before.iter().filter(|token| token.start > open.token.start);
@@ -204,7 +204,7 @@ fn is_after(spot: &Spot<'_>, open: Open, sign: Kind) -> bool {
     is_end && inside.any(|token| token.kind == sign)
 }
 
-/// Whether single quotes begin here, where an expression may begin, and end in the same line.
+/// Whether a text in single quotes begins here, where an expression may begin, and ends in the same line.
 fn is_quoted(spot: &Spot<'_>) -> bool {
     let line = spot.place(spot.at).line;
     let rest = spot.tokens.get(spot.at.saturating_add(1)..).unwrap_or(&[]);

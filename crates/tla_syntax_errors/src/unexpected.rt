@@ -1,4 +1,4 @@
-//! Tokens that can't be where they are.
+//! Unexpected tokens.
 
 use crate::heads::say_operator;
 use crate::kinds::{begins_operand, begins_unit, closes, ends_operand, may_begin_operand};
@@ -10,7 +10,7 @@ use tla_hints::{Open, command_meant, innermost_open, is_closed_by, word_meant};
 use tla_lex::{Kind, Place};
 use tla_page::places::word;
 
-/// Finds why a token can't be there.
+/// Finds why a token is unexpected.
 pub fn find(finding: &mut Finding, spot: &Spot<'_>) {
     let open = open_before(finding, spot);
     let found = cases::find(finding, spot)
@@ -27,7 +27,7 @@ pub fn find(finding: &mut Finding, spot: &Spot<'_>) {
     }
 }
 
-/// Finds what an item of a list lacks, of which a token is left of the bullet.
+/// Finds what is missing in an item of a list with a token left of the bullet.
 pub fn find_left(finding: &mut Finding, spot: &Spot<'_>) {
     let open = open_before(finding, spot);
     let is_bullet = matches!(spot.kind(spot.at), Some(Kind::And | Kind::Or));
@@ -41,7 +41,7 @@ pub fn find_left(finding: &mut Finding, spot: &Spot<'_>) {
     }
 }
 
-/// Finds what the item before a bullet, or before a definition, lacks.
+/// Finds what is missing in the item before a bullet or before a definition.
 fn find_bullet(finding: &mut Finding, spot: &Spot<'_>, open: Option<Open>) {
     let is_finished = spot.back(1).is_some_and(ends_operand);
     match open {
@@ -58,7 +58,7 @@ fn find_bullet(finding: &mut Finding, spot: &Spot<'_>, open: Option<Open>) {
     }
 }
 
-/// What is open before the token.
+/// The innermost open token before the token.
 fn open_before(finding: &mut Finding, spot: &Spot<'_>) -> Option<Open> {
     match innermost_open(finding.alloc(), spot.tokens, spot.place(spot.at)) {
         Ok(open) => open,
@@ -69,7 +69,7 @@ fn open_before(finding: &mut Finding, spot: &Spot<'_>) -> Option<Open> {
     }
 }
 
-/// Finds a word of another language, or an operator with a backslash that is left out.
+/// Finds a word of another language, or an operator with a backslash that isn't supported.
 fn find_word(finding: &mut Finding, spot: &Spot<'_>) -> bool {
     let next = spot.at.saturating_add(1);
     let (word, sign) = if spot.is(spot.at, Kind::Difference) && spot.touches_before(next) {
@@ -101,7 +101,7 @@ fn find_word(finding: &mut Finding, spot: &Spot<'_>) -> bool {
     }
 }
 
-/// Finds what is not closed before a token that can't be inside it.
+/// Finds an open token before a token that can't be inside it.
 fn find_open(finding: &mut Finding, spot: &Spot<'_>, open: Option<Open>) -> bool {
     let Some(kind) = spot.kind(spot.at) else {
         return false;
@@ -134,7 +134,7 @@ fn say_open(finding: &mut Finding, spot: &Spot<'_>, open: Open) {
     show_open(finding, spot, open);
 }
 
-/// Shows what is open, and what it wants.
+/// Shows the open token, and says what has to close it.
 fn show_open(finding: &mut Finding, spot: &Spot<'_>, open: Open) {
     let token = open.token;
     show_wanted(finding, token.place, word(spot.text, &token), open.wanted);
@@ -190,7 +190,7 @@ fn is_empty_call(spot: &Spot<'_>) -> bool {
         && spot.back(2) == Some(Kind::Name)
 }
 
-/// Says that a sign begins no unit.
+/// Says that a symbol begins no unit.
 fn say_no_unit(finding: &mut Finding, spot: &Spot<'_>) {
     let place = spot.place(spot.at);
     if heads::defines_later(spot, place.line) {

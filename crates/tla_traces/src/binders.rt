@@ -19,7 +19,7 @@ pub fn put_choices(output: &mut Output, context: &ExplainContext<'_>, chosen: &[
     }
 }
 
-/// Whether an expression is one of the names that were chosen.
+/// Whether an expression is one of the chosen names.
 pub fn is_choice(context: &ExplainContext<'_>, chosen: &[Chosen], expr: &Expr) -> bool {
     let Expr::Name(name) = expr else {
         return false;
@@ -29,7 +29,7 @@ pub fn is_choice(context: &ExplainContext<'_>, chosen: &[Chosen], expr: &Expr) -
     })
 }
 
-/// The name of a value that was chosen.
+/// The name of a chosen value.
 fn name_of<'a>(context: &ExplainContext<'a>, choice: &Chosen) -> Option<&'a str> {
     let written = match binder_at(context.units, choice.place)? {
         Expr::Quantified(_, _, binders, _) => nth_in_turn(binders, choice.name),
@@ -44,7 +44,7 @@ fn name_of<'a>(context: &ExplainContext<'a>, choice: &Chosen) -> Option<&'a str>
     str::from_utf8(written?.word.as_bytes()).ok()
 }
 
-/// The nth name of binders, where a pattern's names are bound with it.
+/// The nth name of binders, if the names of a pattern count at the place of the pattern.
 fn nth_in_turn(binders: &[Binder], nth: usize) -> Option<&Written> {
     let mut left = nth;
     for binder in binders {
@@ -57,7 +57,7 @@ fn nth_in_turn(binders: &[Binder], nth: usize) -> Option<&Written> {
     None
 }
 
-/// The nth name of binders. The names of patterns are bound after all others.
+/// The nth name of binders, if the names of patterns count after all others.
 fn nth_of_elements(binders: &[Binder], nth: usize) -> Option<&Written> {
     let mut left = nth;
     for patterns in [false, true] {
@@ -128,7 +128,7 @@ fn begins_pattern(before: Kind, kind: Kind) -> bool {
     begins_entry(before) && kind == Kind::LeftTuple
 }
 
-/// Whether a name between these is bound by itself.
+/// Whether a name between these tokens is bound outside a pattern.
 fn is_bound_alone(before: Kind, after: Kind) -> bool {
     begins_entry(before) && ends_name(after)
 }

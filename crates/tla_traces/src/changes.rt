@@ -1,4 +1,4 @@
-//! What a step changes.
+//! The changes of a step.
 
 use crate::differences::{Change, Difference, Key, Path, Spot};
 use crate::parts::parts_of;
@@ -8,10 +8,10 @@ use tla_page::values::{put_from_to, put_key};
 use tla_report::Names;
 use tla_value::{State, Value};
 
-/// How many lines show what a step changes, where values aren't shown whole.
+/// The most lines for the changes of a step, unless values are shown whole.
 const MOST_LINES: usize = 60;
 
-/// Adds what changes between two states, a line for each part that changes.
+/// Adds the changes between two states, a line for each part that changes.
 pub(crate) fn put_changes(output: &mut Output, variables: &Names, before: &State, after: &State) {
     let Ok(changed) = changed_variables(output.alloc(), variables, before, after) else {
         return output.refuse();
@@ -23,7 +23,6 @@ pub(crate) fn put_changes(output: &mut Output, variables: &Names, before: &State
     }
 }
 
-/// The variables that change.
 fn changed_variables<'a>(
     alloc: Global,
     variables: &'a Names,
@@ -45,7 +44,7 @@ fn changed_variables<'a>(
     Ok(changed)
 }
 
-/// Adds differences. One that has parts is shown by them.
+/// Adds differences. One with parts is shown by its parts.
 fn put_all(output: &mut Output, differences: Vec<Difference<'_>>) {
     let mut left = Vec::new(output.alloc());
     if push_all(&mut left, differences).is_err() {
@@ -74,7 +73,7 @@ fn put_all(output: &mut Output, differences: Vec<Difference<'_>>) {
     }
 }
 
-/// Puts differences on top of those that are left, the first one uppermost.
+/// Pushes differences on the stack of pending ones, the first on top.
 fn push_all<'a>(
     left: &mut Vec<Difference<'a>>,
     parts: Vec<Difference<'a>>,

@@ -1,4 +1,4 @@
-//! What explanations of answers are made from.
+//! The context of explanations of answers.
 
 use tla_config::Statement;
 use tla_lex::Token;

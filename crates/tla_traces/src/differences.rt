@@ -1,51 +1,51 @@
-//! Where the values of two states differ.
+//! Differences of the values of two states.
 
 use std::alloc::AllocError;
 use tla_value::Value;
 
-/// An argument on the way into a value.
+/// An argument on the path into a value.
 #[derive(Clone, Copy)]
 pub(crate) enum Key<'a> {
     Number(i64),
     Value(&'a Value),
 }
 
-/// A part of a variable's value: the variable, and the arguments on the way to the part.
+/// A part of a variable's value: the variable, and the arguments on the path to the part.
 #[derive(Drop)]
 pub(crate) struct Path<'a> {
     pub(crate) variable: &'a str,
     pub(crate) keys: Vec<Key<'a>>,
 }
 
-/// Where an item of a sequence was put on, or was taken off.
+/// Where an item of a sequence was inserted or removed.
 #[derive(Clone, Copy)]
 pub(crate) enum Spot {
     Front,
     End,
-    /// At a place between others, from 1.
+    /// At this index between others, from 1.
     Between(usize),
 }
 
-/// What became of a part.
+/// The change of a part.
 #[derive(Clone, Copy)]
 pub(crate) enum Change<'a> {
     /// It has another value.
     Other(&'a Value, &'a Value),
-    /// The set gained a member.
+    /// The set has a new member.
     Gained(&'a Value),
-    /// The set has one member less.
+    /// The set lost a member.
     Lost(&'a Value),
-    /// An item was put on the sequence.
+    /// An item was inserted into the sequence.
     Put(&'a Value, Spot),
-    /// An item was taken off the sequence.
+    /// An item was removed from the sequence.
     Taken(&'a Value, Spot),
-    /// It is an argument that the function had not.
+    /// The argument is new in the domain of the function.
     New(&'a Value),
-    /// It is an argument that the function has no longer.
+    /// The argument is no longer in the domain of the function.
     Gone(&'a Value),
 }
 
-/// A part of a variable's value, and what became of it.
+/// A part of a variable's value, and its change.
 #[derive(Drop)]
 pub(crate) struct Difference<'a> {
     pub(crate) path: Path<'a>,
@@ -53,7 +53,7 @@ pub(crate) struct Difference<'a> {
 }
 
 impl<'a> Path<'a> {
-    /// What became of this part.
+    /// A change of this part.
     pub(crate) fn became(&self, change: Change<'a>) -> Result<Difference<'a>, AllocError> {
         Ok(Difference {
             path: Path {
@@ -64,7 +64,7 @@ impl<'a> Path<'a> {
         })
     }
 
-    /// What became of the value at an argument of this part.
+    /// A change of the value at an argument of this part.
     pub(crate) fn became_at(
         &self,
         key: Key<'a>,

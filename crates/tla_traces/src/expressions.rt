@@ -1,4 +1,4 @@
-//! The expression of the text that a node was made of.
+//! The expression in the text from which a node comes.
 
 use crate::signs::{sign_of, written_sign};
 use tla_core::Core;
@@ -6,16 +6,17 @@ use tla_lex::Place;
 use tla_page::places::token_place;
 use tla_tree::{Arm, Binder, Definition, Expr, Field, Infix, Key, Unit, Update};
 
-/// What is looked for: an expression with this place and this sign. The empty text means a name, a number or a string.
+/// The expression that is searched for, by its place and its symbol. The empty symbol means a name, a number or a
+/// string.
 #[derive(Clone, Copy)]
 struct Wanted<'a> {
     place: Place,
     sign: &'a str,
-    /// How many operators of the same sign begin at the place below it.
+    /// How many operators with the same symbol begin at the same place inside it.
     inner: usize,
 }
 
-/// The expression that a node was made of.
+/// The expression from which a node comes.
 pub fn expression_of<'a>(units: &'a [Unit], core: &Core) -> Option<&'a Expr> {
     if let Core::Literal(_) = core {
         return first_at(units, core.place(), &["{ }", "<< >>", "[ |-> ]"]);
@@ -28,7 +29,7 @@ pub fn expression_of<'a>(units: &'a [Unit], core: &Core) -> Option<&'a Expr> {
     find_in_units(units, &wanted)
 }
 
-/// The expression at a place that has the first of these signs that one has.
+/// The expression at a place with the first of these symbols that some expression there has.
 fn first_at<'a>(units: &'a [Unit], place: tla_core::Place, signs: &[&str]) -> Option<&'a Expr> {
     for sign in signs {
         if let Some(found) = expression_at(units, place, sign) {
@@ -51,7 +52,7 @@ pub fn binder_at(units: &[Unit], place: tla_core::Place) -> Option<&Expr> {
     first_at(units, place, &signs)
 }
 
-/// How many nodes of the same sign begin at the place of a node, below it.
+/// How many nodes with the same symbol begin at the place of a node, inside it.
 #[cycle(inner)]
 fn inner_of(core: &Core) -> usize {
     match core {
@@ -79,7 +80,7 @@ fn inner_below(first: &Core, place: tla_core::Place, sign: &str) -> usize {
     }
 }
 
-/// The same of an expression. Conjunctions and disjunctions aren't counted.
+/// The same for an expression. Conjunctions and disjunctions aren't counted.
 #[cycle(inner_written)]
 fn inner_written(expr: &Expr) -> usize {
     match expr {
@@ -100,7 +101,7 @@ fn inner_written_below(first: &Expr, place: Place, sign: &str) -> usize {
     }
 }
 
-/// Whether an expression is the one that is looked for.
+/// Whether an expression is the one that is searched for.
 fn is_wanted(expr: &Expr, wanted: &Wanted<'_>) -> bool {
     expr.place() == wanted.place
         && written_sign(expr) == wanted.sign
@@ -125,7 +126,7 @@ fn find_in_units<'a>(units: &'a [Unit], wanted: &Wanted<'_>) -> Option<&'a Expr>
     None
 }
 
-/// The first of an expression and its parts that is wanted.
+/// The first wanted expression among an expression and its parts.
 #[cycle(find)]
 fn find_in<'a>(expr: &'a Expr, wanted: &Wanted<'_>) -> Option<&'a Expr> {
     if is_wanted(expr, wanted) {
@@ -164,7 +165,7 @@ fn find_in<'a>(expr: &'a Expr, wanted: &Wanted<'_>) -> Option<&'a Expr> {
     }
 }
 
-/// The same for IF and for the forms that have definitions, arms, fields or updates.
+/// The same for IF and for forms with definitions, arms, fields or updates.
 #[cycle(find)]
 fn find_in_rest<'a>(expr: &'a Expr, wanted: &Wanted<'_>) -> Option<&'a Expr> {
     match expr {
@@ -282,7 +283,7 @@ fn find_in_definition<'a>(definition: &'a Definition, wanted: &Wanted<'_>) -> Op
     }
 }
 
-/// The operand of an expression with a number, from 0.
+/// Operand `number` of an expression, from 0.
 pub fn operand_of(expr: &Expr, number: usize) -> Option<&Expr> {
     match expr {
         Expr::Binary(_, _, _, left, right) | Expr::FunctionSet(_, left, right) => {
@@ -332,7 +333,7 @@ fn one_of_two<'a>(first: &'a Expr, second: &'a Expr, number: usize) -> Option<&'
     }
 }
 
-/// The expression at a place that has this sign.
+/// The expression at a place with this symbol.
 pub fn expression_at<'a>(
     units: &'a [Unit],
     place: tla_core::Place,

@@ -1,4 +1,4 @@
-//! The formulas that statements of the configuration name.
+//! The formulas of the statements of the configuration.
 
 use crate::context::ExplainContext;
 use std::alloc::{AllocError, Global};
@@ -12,21 +12,19 @@ use tla_verdict::Part;
 /// A formula, by the statement that names it.
 #[derive(Clone, Copy)]
 pub struct Formula<'a> {
-    /// The statement's word.
+    /// The statement's keyword.
     pub statement: &'static str,
     pub name: &'a str,
-    /// Where the statement has the name.
+    /// The place of the name in the statement.
     pub place: Place,
     /// The item of CONSTANT for the name, if there is one.
     pub item: Option<&'a Item>,
-    /// What the name means, by the items too, if the module brings that in. Else the formula is a
-    /// value or an operator of an extended module, and its only place is that of its name in the
-    /// configuration.
+    /// The definition that the name means, after replacement by items, if it is one of the module. Else the formula is
+    /// a value or an operator of an extended module, and its only place is that of its name in the configuration.
     pub meant: Option<Known<'a>>,
 }
 
-/// The formula of a part, if a statement of the configuration names it. The only error is out of
-/// memory.
+/// The formula of a part, if a statement of the configuration names it. The only error is that memory ran out.
 pub fn formula_of<'a>(
     alloc: Global,
     context: &ExplainContext<'a>,
@@ -56,7 +54,7 @@ pub fn name_alone<'a>(
     }
 }
 
-/// The word of the statement that names the formula of a part.
+/// The keyword of the statement that names the formula of a part.
 fn word_of(part: Part) -> &'static str {
     match part {
         Part::Assumption(_) => "ASSUME",
@@ -83,7 +81,7 @@ fn name_of<'a>(statements: &'a [Statement], part: Part) -> Option<&'a Written> {
     None
 }
 
-/// The names that a statement has for formulas of the kind of a part.
+/// The names of a statement, if its formulas are of the kind of a part.
 fn names_for<'a>(statement: &'a Statement, part: Part) -> &'a [Written] {
     match (statement, part) {
         (Statement::Init(_, name), Part::Initial) => std::slice::from_ref(name),
@@ -123,7 +121,8 @@ pub fn name_of_item(item: &Item) -> &Written {
     }
 }
 
-/// What a name means by the items of the configuration, if the module brings that in.
+/// The definition of the module that a name means, after replacement by the items of the configuration, if there is
+/// one.
 fn meant_by<'a>(
     alloc: Global,
     context: &ExplainContext<'a>,
@@ -136,8 +135,8 @@ fn meant_by<'a>(
     Ok(known_name(&known, text_of(meant)))
 }
 
-/// The name that a name means by items `c <- Op`; none where it means a value. No item leads back to
-/// its own name, so there are fewer of them in a row than tokens.
+/// The name that a name means after replacement by items `c <- Op`; none if it means a value. Items have no cycle, so a
+/// chain of them is shorter than the list of tokens.
 fn meaning_of<'a>(context: &ExplainContext<'a>, name: &'a Written) -> Option<&'a Written> {
     let mut meant = name;
     for _ in context.tokens {

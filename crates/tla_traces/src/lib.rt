@@ -1,5 +1,4 @@
-//! Explanations of traces: which part of Next made each step, what it changed, and how often each
-//! part made one.
+//! Explanations of traces: which part of Next made each step, what it changed, and how many steps each part made.
 #![tactic(auto)]
 
 pub mod binders;

@@ -1,4 +1,4 @@
-//! The model that the two texts denote, with what it was read from.
+//! The model that the two texts denote, with its syntax trees.
 
 use crate::context::ExplainContext;
 use std::alloc::Global;
@@ -20,7 +20,7 @@ pub struct Named {
 }
 
 impl Named {
-    /// Reads the two texts. None if they are refused or memory ran out.
+    /// Reads the two texts; none if they are refused or memory ran out.
     pub fn read(alloc: Global, sources: &Sources<'_>) -> Option<Named> {
         let tokens = tokens(alloc, sources.module).ok()?;
         let module = parse_module(alloc, sources.module, &tokens).ok()?;

@@ -1,4 +1,4 @@
-//! The parts by which a changed value is shown.
+//! The parts of a changed value that are shown.
 
 use crate::differences::{Change, Difference, Key, Path};
 use crate::sequences::sequence_parts;
@@ -6,8 +6,8 @@ use std::alloc::{AllocError, Global};
 use std::cmp::Ordering;
 use tla_value::{Arguments, FunValue, SetValue, Value};
 
-/// The parts by which a difference is shown, in order. None where it is shown whole: where it has
-/// no parts, or where nothing of the old value is kept.
+/// The parts by which a difference is shown, in order; none if it is shown whole: it has no parts, or nothing of the
+/// old value remains.
 pub(crate) fn parts_of<'a>(
     alloc: Global,
     difference: &Difference<'a>,
@@ -30,7 +30,7 @@ fn are_sequences(old: &FunValue, new: &FunValue) -> bool {
     old.as_sequence().is_some() && new.as_sequence().is_some()
 }
 
-/// What a set lost, and then what it gained.
+/// The members that a set lost, and then the new ones.
 fn set_parts<'a>(
     alloc: Global,
     path: &Path<'a>,
@@ -72,8 +72,8 @@ fn push_each<'a>(
     Ok(())
 }
 
-/// The arguments of a function, each with its value, from one of them on. The members of a set are
-/// arguments of which each is its own value.
+/// The arguments of a function, each with its value, from one of them on. The members of a set count as arguments that
+/// are their own values.
 #[derive(Clone, Copy)]
 struct Entries<'a> {
     arguments: Arguments<'a>,
@@ -115,7 +115,7 @@ impl<'a> Entries<'a> {
     }
 }
 
-/// What became of the arguments of a function. None where no argument is kept.
+/// The changes at the arguments of a function; none if both domains have arguments, but none in common.
 fn function_parts<'a>(
     alloc: Global,
     path: &Path<'a>,
@@ -150,7 +150,7 @@ fn function_parts<'a>(
     Ok(if kept { Some(parts) } else { None })
 }
 
-/// The least argument of two functions that is left, and which of them has it.
+/// The least remaining argument of two functions, and which of them has it.
 #[derive(Clone, Copy)]
 enum Next<'a> {
     None,

@@ -1,25 +1,25 @@
-//! What became of a sequence.
+//! The changes of a sequence.
 
 use crate::differences::{Change, Difference, Key, Path, Spot};
 use std::alloc::{AllocError, Global};
 use tla_value::Value;
 
-/// How many items are tried as those that were taken off the front.
+/// The most items at the front that are tried as the removed ones.
 const MOST_TAKEN: usize = 20;
 
-/// How one sequence is made of another: neighbours are taken off it, and others are put on.
+/// How one sequence becomes another: some adjacent items are removed, and others are inserted.
 #[derive(Clone, Copy)]
 struct Edit {
-    /// The index of the first item that is taken off, and how many are.
+    /// The index of the first removed item, and the number of removed ones.
     taken_at: usize,
     taken: usize,
-    /// The index in the new sequence of the first item that is put on, and how many are.
+    /// The index in the new sequence of the first inserted item, and the number of inserted ones.
     put_at: usize,
     put: usize,
 }
 
-/// The parts by which a changed sequence is shown: its items at some places, or those that were
-/// taken off and put on. None where too little of it is kept.
+/// The parts by which a changed sequence is shown: its items at some indices, or those that were removed and inserted;
+/// none if too little of it is unchanged.
 pub(crate) fn sequence_parts<'a>(
     alloc: Global,
     path: &Path<'a>,
@@ -39,12 +39,12 @@ pub(crate) fn sequence_parts<'a>(
     Ok(Some(parts))
 }
 
-/// How many items are taken and put.
+/// The number of removed and inserted items.
 fn cost(edit: Edit) -> usize {
     edit.taken.saturating_add(edit.put)
 }
 
-/// Whether enough is kept for an edit to be shown.
+/// Whether enough is unchanged for an edit to be shown.
 fn is_worth(edit: Edit, old: &[Value], new: &[Value]) -> bool {
     if old.is_empty() || new.is_empty() {
         return false;
@@ -53,7 +53,7 @@ fn is_worth(edit: Edit, old: &[Value], new: &[Value]) -> bool {
     edit.taken == 0 || edit.put == 0 || cost(edit) <= kept.saturating_mul(2)
 }
 
-/// How many items differ at their places.
+/// The number of indices at which the items differ.
 fn different_places(old: &[Value], new: &[Value]) -> usize {
     let mut count = 0usize;
     for (old, new) in old.iter().zip(new.iter()) {
@@ -64,8 +64,7 @@ fn different_places(old: &[Value], new: &[Value]) -> usize {
     count
 }
 
-/// The way of fewer items to make one sequence of another: at the front and at the end, or in one
-/// place.
+/// The cheaper edit from one sequence to another: at the front and the end, or at one position.
 fn edit_of(old: &[Value], new: &[Value]) -> Edit {
     let replacing = replace_edit(old, new);
     match shift_edit(old, new) {
@@ -74,8 +73,7 @@ fn edit_of(old: &[Value], new: &[Value]) -> Edit {
     }
 }
 
-/// The first items are taken off the front, and others are put on at the end, if some between them
-/// are kept.
+/// Removes items at the front and inserts others at the end, if some between them are unchanged.
 fn shift_edit(old: &[Value], new: &[Value]) -> Option<Edit> {
     for taken in 1..old.len().min(MOST_TAKEN) {
         let kept = old.get(taken..).unwrap_or(&[]);
@@ -91,7 +89,7 @@ fn shift_edit(old: &[Value], new: &[Value]) -> Option<Edit> {
     None
 }
 
-/// What both have at the front and at the end is kept.
+/// Replaces everything between the common prefix and the common suffix.
 fn replace_edit(old: &[Value], new: &[Value]) -> Edit {
     let front = common_start(old, new);
     let shorter = old.len().min(new.len());
@@ -171,7 +169,7 @@ fn push_put<'a>(
     Ok(())
 }
 
-/// Where an item is that is one of `count` neighbours from `first` on in a sequence of this length.
+/// Where an item is that is one of `count` adjacent ones from `first` on in a sequence of this length.
 fn spot_of(first: usize, count: usize, length: usize, index: usize) -> Spot {
     if first.saturating_add(count) == length {
         Spot::End

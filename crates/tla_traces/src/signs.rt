@@ -1,9 +1,9 @@
-//! The text of an expression's operator or form.
+//! The symbol of an expression's operator or form.
 
 use tla_core::{Binary, Core, Kind, Unary};
 use tla_tree::{Brackets, Bullet, Constant, Expr, Infix, Prefix, Quantifier, Written};
 
-/// How the operator or form of a node is written; no text for a name, a number or a string.
+/// The symbol of the operator or form of a node; empty for a name, a number or a string.
 pub fn sign_of(core: &Core) -> &'static str {
     match core {
         Core::Unary(_, operator, _) => unary_sign(*operator),
@@ -89,7 +89,8 @@ fn binary_sign(operator: Binary) -> &'static str {
     }
 }
 
-/// How the operator or form of an expression is written; no text for a name, a number or a string, and for what has no node.
+/// The symbol of the operator or form of an expression; empty for a name, a number or a string, and for a form without
+/// a node.
 pub fn written_sign(expr: &Expr) -> &str {
     match expr {
         Expr::Call(name, _) => word_of(name),

@@ -12,14 +12,13 @@ use tla_report::Answered;
 use tla_steps::{Action, Chosen, Taken, next_values, taken_parts};
 use tla_value::State;
 
-/// How many steps of a trace are shown, the last ones.
+/// The most steps of a trace that are shown: the last ones.
 const MOST_STEPS: usize = 100;
 
-/// How many expressions are evaluated to find who made the steps.
+/// The most expressions that are evaluated to find which parts made the steps.
 const BUDGET: u64 = 1_000_000;
 
-/// Adds the steps of a trace: which part of Next made each, with what its `\E` chose, and what
-/// changed.
+/// Adds the steps of a trace: which part of Next made each, with the values that its `\E` chose, and what changed.
 pub fn explain_trace(output: &mut Output, context: &ExplainContext<'_>, answered: &Answered) {
     let states = answered.answer.states();
     let passed = states.len().saturating_sub(MOST_STEPS.saturating_add(1));
@@ -50,7 +49,7 @@ fn put_state_number(output: &mut Output, number: usize) {
     output.put_number(number as u128);
 }
 
-/// Adds who made a step from one state to another.
+/// Adds which parts of Next made a step from one state to another.
 fn put_makers(
     output: &mut Output,
     context: &ExplainContext<'_>,
@@ -93,7 +92,7 @@ fn put_all(output: &mut Output, context: &ExplainContext<'_>, makers: &[Taken]) 
     output.put_text(":\n");
 }
 
-/// Adds the name of a part, its line, where it is called, and what was chosen for it.
+/// Adds the name of a part, its line, where it is called, and the values that were chosen for it.
 fn put_maker(output: &mut Output, context: &ExplainContext<'_>, maker: &Taken) {
     put_part(output, context, maker.place);
     put_caller(output, context, maker.place, maker.within);
@@ -111,7 +110,7 @@ pub fn put_part(output: &mut Output, context: &ExplainContext<'_>, place: Place)
     output.put_text(")");
 }
 
-/// Adds the name of the definition in which a part is called, where it is another one.
+/// Adds the name of the definition in which a part is called, if it is another one.
 pub fn put_caller(
     output: &mut Output,
     context: &ExplainContext<'_>,

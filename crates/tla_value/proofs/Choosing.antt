@@ -1,4 +1,4 @@
--- All choices from rising lists rise, and so do the functions that they give.
+-- All choices from rising lists rise, and so do the functions of these choices.
 use Rattle.std.proofs.Common.{◌≡◌, ℕ, suc, List, [], ◌∷◌, length, map, zip, refl, sym, ap, ◌∙◌, arith, Ordering, Less}
 use Rattle.std.specs.List.{AllByRecursion, flat_map}
 use Rattle.std.specs.List.Sorted.{IsStrictlySortedBy}

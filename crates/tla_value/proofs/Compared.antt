@@ -16,7 +16,7 @@ use Rattle.tla_value.specs.declared.value.Value.{Value}
 use Rattle.tla_value.specs.declared.value.Arguments.{Arguments}
 use Rattle.tla_value.specs.declared.value.Arguments.TheVariants.{Numbers, Listed}
 
--- how many arguments are lent
+-- the number of borrowed arguments
 pub length-argument_values : (n : ℕ) (a : Arguments) → FitArguments n a → length (argument_values n a) ≡ n
 length-argument_values n (Numbers z) h = length-numbers n z
 length-argument_values n (Listed vs) h = h
@@ -26,7 +26,7 @@ next_pair ks vs i d long l =
     drop-cons (zip ks vs) i (d, d) (omega (arith, length-zip ks vs long, l))
     ∙ ap (λ p. p ∷ drop (suc i) (zip ks vs)) (get_or-zip ks vs i (d, d) (omega (arith, long, l)) l)
 
--- the pairs at a place, and then what is left
+-- the pairs at an index, and then the rest
 pub compared_step : (ks vs ls ws : List Value) (i : ℕ) (d : Value) → length ks ≡ length vs → length ls ≡ length ws → i < length vs → i < length ws
     → pairs_cmp (pairs (map pair_of (drop i (zip ks vs)))) (pairs (map pair_of (drop i (zip ls ws))))
     ≡ ordering_then (ordering_then (tree_cmp (tree_of (get_or ks i d)) (tree_of (get_or ls i d))) (tree_cmp (tree_of (get_or vs i d)) (tree_of (get_or ws i d)))) (pairs_cmp (pairs (map pair_of (drop (suc i) (zip ks vs)))) (pairs (map pair_of (drop (suc i) (zip ls ws)))))
@@ -35,7 +35,7 @@ compared_step ks vs ls ws i d a b l m =
     let q = next_pair ls ws i d b m in
     λ j. pairs_cmp (pairs (map pair_of (p j))) (pairs (map pair_of (q j)))
 
--- nothing is left
+-- the rest is empty
 pub compared_end : (ks vs ls ws : List Value) (i : ℕ) → length ks ≡ length vs → length ls ≡ length ws → length vs ≤ i → length ws ≤ i
     → pairs_cmp (pairs (map pair_of (drop i (zip ks vs)))) (pairs (map pair_of (drop i (zip ls ws)))) ≡ Equal
 compared_end ks vs ls ws i a b l m =
@@ -62,7 +62,7 @@ both_equal Equal Greater q e f = cc
 both_equal Less p q e f = cc
 both_equal Greater p q e f = cc
 
--- numbers as far above two others
+-- equal distances from two numbers
 pub shifted_cmp : (x y : ℤ) (i : ℕ) → int_cmp x y ≡ int_cmp (x +ℤ pos i) (y +ℤ pos i)
 shifted_cmp x y i = grind (arith, ints)
 

@@ -1,4 +1,4 @@
--- The names and the sets of fields, as the code has them.
+-- The names and the sets of fields, as lists of the code.
 use Rattle.std.proofs.Common.{◌≡◌, ℕ, ◌<◌, List, [], ◌∷◌, map, refl, sym, ap, subst, ◌∙◌, arith, Less, Equal, Greater}
 use Rattle.std.specs.BTreeSet.{insert_key}
 use Rattle.std.specs.Ordering.{match_ordering}
@@ -32,7 +32,7 @@ shallow-names fs ps ks e f =
     let names : ks ≡ set_of (keys_of fs) = f ∙ ap arguments e ∙ arguments-fun_of (keyed fs) ∙ ap set_of (arguments-keyed fs) in
     subst (λ (us : List Tree). deepest (trees us) < 64) (sym names) (let flat = flat-names fs in omega arith)
 
--- the names and the sets of fields, from the list that the code has
+-- the names and the sets of fields, from the list of the code
 pub names-fields : {S : Type 0} (now : S → List Tree) (fs : List (Value × S)) → arguments (map (field_of now) fs) ≡ map (λ (f : Value × S). tree_of f.0) fs
 names-fields now [] = refl
 names-fields now (f ∷ fs) = ap (λ ts. tree_of f.0 ∷ ts) (names-fields now fs)

@@ -1,4 +1,4 @@
--- The sets beside the names of fields, and the two tests of a function on the names.
+-- The sets of fields, and the two tests of a function on their names.
 use Rattle.std.proofs.Common.{◌≡◌, ℕ, Bool, true, false, cond, not, ◌||◌, Some, None, List, [], ◌∷◌, map, refl, sym, ap, ◌∙◌}
 use Rattle.std.specs.List.{AllByRecursion, list_all}
 use Rattle.std.specs.List.Sorted.{IsStrictlySortedBy}
@@ -19,7 +19,7 @@ arguments-keyed (f ∷ fs) = ap (λ us. text f.0 ∷ us) (arguments-keyed fs)
 some-same : (a b : Tree) → Some a ≡ Some b → a ≡ b
 some-same a b e = cc
 
--- a field whose set stands beside a name fits where all do
+-- if all fields fit, so does the one with this name and set
 pub field-fits : (qs : List (Tree × Tree)) (fs : List (List ℕ × List Tree)) (k : Tree) (L : List Tree) → value_at k (keyed fs) ≡ Some (set (trees L))
     → list_all (λ (f : List ℕ × List Tree). if_there (value_at (text f.0) qs) f.1) fs ≡ true → if_there (value_at k qs) L ≡ true
 field-fits qs [] k L e h = cc
@@ -32,7 +32,7 @@ field-fits qs (f ∷ fs) k L e h =
       | false ↦ λ i g. field-fits qs fs k L g both.1
     ] refl e
 
--- each name has its own set beside it
+-- each name has its own set
 pub own-set : (fs : List (List ℕ × List Tree)) → is_each_once (keys_of fs) ≡ true → AllByRecursion (λ (f : List ℕ × List Tree). value_at (text f.0) (keyed fs) ≡ Some (set (trees f.1))) fs
 own-set [] h = tt
 own-set (f ∷ fs) h =
@@ -55,7 +55,7 @@ own-set (f ∷ fs) h =
 abbrev pub as_sets : List (List Tree) → List Tree
 as_sets lists = map (λ (L : List Tree). set (trees L)) lists
 
--- values that stand in their sets stand there wherever they are looked up
+-- values that are in their sets by index are in them by lookup
 pub stands-at : (qs ps : List (Tree × Tree)) (lists : List (List Tree)) → arguments qs ≡ arguments ps → images ps ≡ as_sets lists → stand_in (images qs) lists ≡ true
     → (k : Tree) (L : List Tree) → value_at k ps ≡ Some (set (trees L)) → if_there (value_at k qs) L ≡ true
 stands-at qs [] lists e f h k L g = cc
@@ -80,7 +80,7 @@ stands-at (q ∷ qs) (p ∷ ps) (M ∷ lists) e f h k L g =
 pub some-none : (t : Tree) → None ≡ Some t → ⊥
 some-none t e = cc
 
--- and those that stand there wherever they are looked up stand in their sets
+-- and conversely
 pub stands-all : (qs ps : List (Tree × Tree)) (lists : List (List Tree)) → arguments qs ≡ arguments ps → images ps ≡ as_sets lists → IsStrictlySortedBy tree_cmp (arguments ps)
     → ((k : Tree) (L : List Tree) → value_at k ps ≡ Some (set (trees L)) → if_there (value_at k qs) L ≡ true) → stand_in (images qs) lists ≡ true
 unfolding IsStrictlySortedBy

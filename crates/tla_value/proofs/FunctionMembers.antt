@@ -1,4 +1,4 @@
--- Which functions are members of a set of functions: those with its arguments, each value in the set beside its argument.
+-- The members of a set of functions: those on its domain, each value in the set of its argument.
 use Rattle.std.proofs.Common.{◌≡◌, suc, Bool, true, false, ◌&&◌, ◌||◌, List, [], ◌∷◌, map, zip, length, refl, sym, ap, subst, ◌∙◌, arith, ⊎_elim}
 use Rattle.std.specs.List.{list_any}
 use Rattle.tla_value.specs.Tree.{Tree, Trees, Pairs, set, fun, trees, pairs, members, entries, members-trees, entries-pairs}

@@ -1,4 +1,4 @@
--- Sets of functions: one function more, how many pairs they have, and what the calls answer.
+-- Sets of functions: one more function, the number of pairs, and the results of calls.
 use Rattle.std.proofs.Common.{◌≡◌, ℕ, zero, suc, ◌*◌, ◌^◌, ◌%◌, ◌<◌, ◌≤◌, List, [], ◌∷◌, ◌++◌, length, map, zip, get_or, take, refl, sym, ap, subst, ◌∙◌, arith, Result, Ok, Err, true, false, ◌==◌}
 use Rattle.std.proofs.lemmas.List.{length-map, map-append, get_or-map}
 use Rattle.std.specs.List.{AllByRecursion}
@@ -73,7 +73,7 @@ some-functions_by ks lists e l = some-function ks (choices lists) (all-of (choic
 pub set_of-functions_by : (ks : List Tree) (lists : List (List Tree)) → length ks ≡ length lists → AllByRecursion (IsStrictlySortedBy tree_cmp) lists → set_of (functions_by ks lists) ≡ functions_by ks lists
 set_of-functions_by ks lists e h = set_of-rising (functions_by ks lists) (rising-functions_by ks lists e h)
 
--- functions that are small enough are refused for their number or their nesting alone
+-- a set of small enough functions is refused only for their number or nesting
 pub MakesSetOfFunctions-small : (ts : List Tree) (result : Result (List Tree) ValueError) → most_pairs ts ≤ 1000000 → MakesSet ts result → MakesSetOfFunctions ts result
 MakesSetOfFunctions-small ts (Ok s) few h = h
 MakesSetOfFunctions-small ts (Err TooMany) few h = omega arith
@@ -94,7 +94,7 @@ some-ways (suc n) f = omega arith
 pub too_many_functions : (ks : List Tree) (lists : List (List Tree)) → length ks ≡ length lists → AllByRecursion (IsStrictlySortedBy tree_cmp) lists → 1000000 < ways lists → 1000000 < length (set_of (functions_by ks lists))
 too_many_functions ks lists e h l = let many = length-functions_by ks lists in subst (λ ts. 1000000 < length ts) (sym (set_of-functions_by ks lists e h)) (omega arith)
 
--- over a set of two or more, each argument doubles the functions at least
+-- with a range of two or more members, each argument at least doubles the number of functions
 ways-repeated : (xs ys : List Tree) → 2 ≤ length ys → 2 ^ length xs ≤ ways (map (λ (x : Tree). ys) xs)
 ways-repeated [] ys h = omega arith
 ways-repeated (x ∷ xs) ys h = let more : 2 * 2 ^ length xs ≤ length ys * ways (map (λ (z : Tree). ys) xs) = mul-le-mul h (ways-repeated xs ys h) in omega (arith, pow-suc 2 (length xs))

@@ -1,4 +1,4 @@
--- What a constructor answers that can only be refused memory, and lists of pairs with another value at a place.
+-- The results of constructors that fail only if memory runs out, and lists of pairs with one value replaced.
 use Rattle.std.proofs.Common.{◌≡◌, ℕ, zero, suc, ◌<◌, ◌≤◌, max, List, [], ◌∷◌, length, map, refl, sym, ap, subst, arith, Result, Ok, Err, IfOk, IfErr}
 use Rattle.tla_value.specs.declared.error.ValueError.{ValueError}
 use Rattle.tla_value.specs.declared.error.ValueError.TheVariants.{Memory, TooDeep}
@@ -36,7 +36,7 @@ deepest-there [] i v l = absurd (omega arith)
 deepest-there (p ∷ ps) zero v l = omega arith
 deepest-there (p ∷ ps) (suc i) v l = let rest : depth v ≤ deepest_pair (pairs (with_value_at ps i v)) = deepest-there ps i v (omega arith) in omega arith
 
--- why a value that is nested too deep is refused
+-- the refusal of a value that is nested too deep
 pub too_deep : (ps : List (Tree × Tree)) (i : ℕ) (v : Tree) → length ps ≤ 1000000 → i < length ps → 64 ≤ depth v → RefusesFun (with_value_at ps i v) TooDeep
 too_deep ps i v few l h = (omega (arith, length-with_value_at ps i v), omega (arith, deepest-there ps i v l))
 

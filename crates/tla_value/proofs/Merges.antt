@@ -1,4 +1,4 @@
--- A list merged from two rising lists: what is made so far, and what is left of each.
+-- A list merged from two rising lists: the part merged so far, and the rest of each.
 use Rattle.std.proofs.Common.{◌≡◌, ◌⊎◌, Bool, true, false, ◌||◌, List, [], ◌∷◌, ◌++◌, append_assoc, append-nil, refl, sym, ap, ◌∙◌, subst, inl, inr, Less, Equal, Greater}
 use Rattle.std.specs.List.{AllByRecursion}
 use Rattle.std.specs.List.Sorted.{IsStrictlySortedBy}
@@ -15,14 +15,14 @@ all-between : (P : Tree → Type 0) (m xs ys : List Tree) (x : Tree) → AllByRe
 all-between P [] xs ys x h j = (h.0, j)
 all-between P (a ∷ m) xs ys x h j = (h.0, all-between P m xs ys x h.1 j.1)
 
--- one that is below all of the second list, between what is merged and that list
+-- an item below all of the second list, between the merged part and that list
 between : (m xs ys : List Tree) (x y : Tree) → IsStrictlySortedBy tree_cmp (m ++ x ∷ xs) → IsStrictlySortedBy tree_cmp (m ++ y ∷ ys) → tree_cmp x y ≡ Less
     → IsStrictlySortedBy tree_cmp (m ++ x ∷ (y ∷ ys))
 unfolding IsStrictlySortedBy
 between [] xs ys x y h j e = ((e, above tree_cmp-total x y ys e j.0), j)
 between (a ∷ m) xs ys x y h j e = (all-between (λ t. tree_cmp a t ≡ Less) m xs (y ∷ ys) x h.0 j.0, between m xs ys x y h.1 j.1 e)
 
--- the two conditions of the merge, of what is left on either side
+-- the two conditions of the merge, for the rest of either side
 pub record IsMerge (m left right whole : List Tree) : Type 0 where
   pub rising_left : IsStrictlySortedBy tree_cmp (m ++ left)
   pub rising_right : IsStrictlySortedBy tree_cmp (m ++ right)
@@ -34,7 +34,7 @@ one_on m xs x = append_assoc m (x ∷ []) xs
 same_behind : (q : Tree) (m xs ys : List Tree) → is_member q xs ≡ is_member q ys → is_member q (m ++ xs) ≡ is_member q (m ++ ys)
 same_behind q m xs ys e = list_any-append (tree_eq q) m xs ∙ ap (λ b. is_member q m || b) e ∙ sym (list_any-append (tree_eq q) m ys)
 
--- the same list with one more, after the left or after the right
+-- the same list with one more item, of the left or of the right
 pub rises_on : (m xs : List Tree) (x : Tree) (new left : List Tree) → left ≡ x ∷ xs → new ≡ m ++ x ∷ [] → IsStrictlySortedBy tree_cmp (m ++ left) → IsStrictlySortedBy tree_cmp (new ++ xs)
 rises_on m xs x new left l n h = subst (IsStrictlySortedBy tree_cmp) (ap (λ us. m ++ us) l ∙ sym (ap (λ us. us ++ xs) n ∙ one_on m xs x)) h
 
@@ -84,7 +84,7 @@ takes_both m xs ys whole new left right x y l r n e h = record {
     once : (q : Tree) → is_member q (x ∷ (xs ++ ys)) ≡ is_member q (x ∷ (xs ++ (x ∷ ys)))
     once q = ap (λ b. tree_eq q x || b) (list_any-append (tree_eq q) xs ys) ∙ or-twice (tree_eq q x) (is_member q xs) (is_member q ys) ∙ ap (λ b. tree_eq q x || b) (sym (list_any-append (tree_eq q) xs (x ∷ ys)))
 
--- where nothing is left on one side, the rest of the other comes last
+-- if the rest of one side is empty, the rest of the other comes last
 pub ends : (m left right whole : List Tree) → (left ≡ []) ⊎ (right ≡ []) → IsMerge m left right whole → (m ++ left) ++ right ≡ set_of whole
 ends m left right whole (inl e) h =
     ap (λ us. (m ++ us) ++ right) e ∙ ap (λ us. us ++ right) (append-nil m)

@@ -14,7 +14,7 @@ use Rattle.tla_value.proofs.Tuples.{numbered_is, deepest-counted_up}
 use Rattle.tla_value.specs.declared.value.Value.{Value}
 use Rattle.tla_value.specs.declared.value.Domain.{Domain}
 
--- what is held on arguments that are given in another way
+-- the contents for arguments in another representation
 pub on_entry : (d : Domain) (vs : List Value) (ts : List Tree) → length ts ≡ length vs → domain_trees (length ts) d ≡ ts → entry_pairs d vs ≡ zip ts (map tree_of vs)
 on_entry d vs ts e h = ap (λ n. zip (domain_trees n d) (map tree_of vs)) (sym e) ∙ ap (λ ks. zip ks (map tree_of vs)) h
 

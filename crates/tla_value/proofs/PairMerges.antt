@@ -1,4 +1,4 @@
--- Pairs merged from two lists that rise by argument: what is made so far, and what is left of each.
+-- Pairs merged from two lists that rise by argument: the part merged so far, and the rest of each.
 use Rattle.std.proofs.Common.{◌≡◌, ◌⊎◌, true, false, cond, Some, List, [], ◌∷◌, ◌++◌, append_assoc, append-nil, refl, sym, ap, ◌∙◌, subst, inl, inr, Less, Equal, Greater}
 use Rattle.std.specs.List.{AllByRecursion}
 use Rattle.std.specs.List.Sorted.{IsStrictlySortedBy}
@@ -13,7 +13,7 @@ use Rattle.tla_value.specs.FunLaws.{Pair, is-fun_of, swapped}
 use Rattle.tla_value.proofs.TreeTests.{eq-true}
 use Rattle.tla_value.proofs.Merges.{rises_on, rises_between}
 
--- the conditions of the merge, of what is left on either side
+-- the conditions of the merge, for the rest of either side
 pub record IsPairMerge (m left right whole : List Pair) : Type 0 where
   pub rising_left : IsStrictlySortedBy tree_cmp (arguments m ++ arguments left)
   pub rising_right : IsStrictlySortedBy tree_cmp (arguments m ++ arguments right)
@@ -23,12 +23,12 @@ arguments-append : (xs ys : List Pair) → arguments (xs ++ ys) ≡ arguments xs
 arguments-append [] ys = refl
 arguments-append (x ∷ xs) ys = ap (λ ts. x.0 ∷ ts) (arguments-append xs ys)
 
--- what is looked up after some pairs
+-- lookup in a concatenation
 same_behind : (q : Tree) (m us vs : List Pair) → value_at q us ≡ value_at q vs → value_at q (m ++ us) ≡ value_at q (m ++ vs)
 same_behind q [] us vs e = e
 same_behind q (p ∷ m) us vs e = ap (cond (tree_eq q p.0) (Some p.1)) (same_behind q m us vs e)
 
--- two arguments, one below the other, are not both the one that is looked up
+-- of two arguments, one below the other, at most one is the argument looked up
 apart : (q a b : Tree) → tree_cmp b a ≡ Less → tree_eq q a ≡ true → tree_eq q b ≡ true → ⊥
 apart q a b h i j =
     let e : q ≡ a = eq-true q a i in
@@ -44,7 +44,7 @@ moved q y (x ∷ left) ys h =
     swapped (tree_eq q x.0) (tree_eq q y.0) (λ i j. apart q x.0 y.0 h.0 i j) x.1 y.1 (value_at q (left ++ ys))
     ∙ ap (cond (tree_eq q x.0) (Some x.1)) (moved q y left ys h.1)
 
--- of two pairs with one argument the second is not seen
+-- of two pairs with the same argument, lookup ignores the second
 hidden : (q : Tree) (x y : Pair) (xs ys : List Pair) → x.0 ≡ y.0 → value_at q (x ∷ (xs ++ ys)) ≡ value_at q (x ∷ (xs ++ (y ∷ ys)))
 hidden q x y xs ys e =
     elim (tree_eq q x.0) as (λ b. tree_eq q x.0 ≡ b → cond b (Some x.1) (value_at q (xs ++ ys)) ≡ cond b (Some x.1) (value_at q (xs ++ (y ∷ ys)))) [
@@ -75,7 +75,7 @@ takes_both m xs ys whole new left right x y l r n e h = record {
     keys : x.0 ≡ y.0
     keys = exact-tree x.0 y.0 e
 
--- each argument that is left is above one that is below the first of them
+-- an argument below the first of the rest is below all of the rest
 all_above : (m xs : List Tree) (x y : Tree) → IsStrictlySortedBy tree_cmp (m ++ x ∷ xs) → tree_cmp y x ≡ Less → AllByRecursion (λ t. tree_cmp y t ≡ Less) (x ∷ xs)
 unfolding IsStrictlySortedBy
 all_above [] xs x y h e = (e, above tree_cmp-total y x xs e h.0)
@@ -96,7 +96,7 @@ takes_right m xs ys whole new left right x y l r n e h = record {
         let rising : IsStrictlySortedBy tree_cmp (arguments m ++ x.0 ∷ arguments xs) = subst (λ (us : List Pair). IsStrictlySortedBy tree_cmp (arguments m ++ arguments us)) l h.rising_left in
         subst (λ (us : List Pair). AllByRecursion (λ t. tree_cmp y.0 t ≡ Less) (arguments us)) (sym l) (all_above (arguments m) (arguments xs) x.0 y.0 rising below)
 
--- where nothing is left on one side, the rest of the other comes last
+-- if the rest of one side is empty, the rest of the other comes last
 pub ends : (m left right whole : List Pair) → (left ≡ []) ⊎ (right ≡ []) → IsPairMerge m left right whole → (m ++ left) ++ right ≡ fun_of whole
 ends m left right whole (inl e) h =
     ap (λ us. (m ++ us) ++ right) e ∙ ap (λ us. us ++ right) (append-nil m)

@@ -1,4 +1,4 @@
--- Arguments beside values: parts, lengths, what is deepest, and another value at a place.
+-- Arguments with values: parts, lengths, the greatest nesting, and replacing a value.
 use Rattle.std.proofs.Common.{◌≡◌, ℕ, zero, suc, ◌<◌, ◌≤◌, max, ℤ, pos, ◌+ℤ◌, List, [], ◌∷◌, length, map, zip, get_or, set as list_set, refl, sym, ap, ◌∙◌, subst, arith, Result, Ok, Err, OnOk, OnErr}
 use Rattle.std.proofs.lemmas.List.{length-map, length-set, map-set}
 use Rattle.std.proofs.lemmas.Slice.Zip.{firsts-zip, seconds-zip, get_or-zip}
@@ -38,7 +38,7 @@ length-zip [] (v ∷ vs) e = absurd (omega arith)
 length-zip (k ∷ ks) [] e = absurd (omega arith)
 length-zip (k ∷ ks) (v ∷ vs) e = ap suc (length-zip ks vs (omega arith))
 
--- ---- of values and of their trees
+-- ---- values and their trees
 pub trees_numbers : (n : ℕ) (z : ℤ) → map tree_of (numbers_from n z) ≡ counted_up n z
 trees_numbers zero z = refl
 trees_numbers (suc n) z = ap (λ ts. int z ∷ ts) (trees_numbers n (z +ℤ pos 1))
@@ -57,11 +57,11 @@ map-zip [] vs = refl
 map-zip (k ∷ ks) [] = refl
 map-zip (k ∷ ks) (v ∷ vs) = ap (λ ps. pair_of (k, v) ∷ ps) (map-zip ks vs)
 
--- a pair that was read part by part
+-- a pair whose parts were read one by one
 pub at-zip : (ks vs : List Value) (i : ℕ) (k v : Value) → i < length ks → i < length vs → k ≡ get_or ks i k → v ≡ get_or vs i v → (k, v) ≡ get_or (zip ks vs) i (k, v)
 at-zip ks vs i k v l m e f = (λ j. (e j, f j)) ∙ sym (get_or-zip ks vs i (k, v) l m)
 
--- ---- another value at a place
+-- ---- replacing a value
 zip-set : (ks ts : List Tree) (i : ℕ) (t : Tree) → zip ks (list_set ts i t) ≡ with_value_at (zip ks ts) i t
 zip-set [] ts i t = refl
 zip-set (k ∷ ks) [] i t = refl
@@ -74,11 +74,11 @@ entry_put d vs i v =
     ∙ ap (λ ts. zip (domain_trees (length vs) d) ts) (map-set tree_of vs i v)
     ∙ zip-set (domain_trees (length vs) d) (map tree_of vs) i (tree_of v)
 
--- the same of a domain and values that are given in another way
+-- the same for a domain and values in another representation
 pub entry_same : (d e : Domain) (vs ws : List Value) (i : ℕ) (v : Value) → e ≡ d → ws ≡ list_set vs i v → entry_pairs e ws ≡ with_value_at (entry_pairs d vs) i (tree_of v)
 entry_same d e vs ws i v g h = (λ j. entry_pairs (g j) (h j)) ∙ entry_put d vs i v
 
--- ---- parts of what is held
+-- ---- parts of the contents
 length-domain_trees : (n : ℕ) (d : Domain) → FitsDomain n d → length (domain_trees n d) ≡ n
 length-domain_trees n (Numbers z) h = length-counted_up n z
 length-domain_trees n (Listed ts) h = h
@@ -95,7 +95,7 @@ entry_values d vs h = values-zip _ _ (as_many d vs h)
 pub entry_length : (d : Domain) (vs : List Value) → FitsDomain (length vs) d → length (entry_pairs d vs) ≡ length vs
 entry_length d vs h = length-zip _ _ (as_many d vs h) ∙ length-map vs tree_of
 
--- ---- what is lent of the arguments
+-- ---- borrowed arguments
 pub seen_numbers : (d : Domain) (vs : List Value) (z : ℤ) → d ≡ Numbers z → FitsDomain (length vs) d → map tree_of (numbers_from (length (entry_pairs d vs)) z) ≡ arguments (entry_pairs d vs)
 seen_numbers d vs z e m =
     trees_numbers (length (entry_pairs d vs)) z
@@ -109,7 +109,7 @@ seen_fit d vs z e m = rw (entry_length d vs m) (rw e at m)
 pub seen_listed : (d : Domain) (vs : List Value) (ts : List Tree) → d ≡ Listed ts → FitsDomain (length vs) d → ts ≡ arguments (entry_pairs d vs)
 seen_listed d vs ts e m = ap (domain_trees (length vs)) (sym e) ∙ sym (entry_arguments d vs m)
 
--- the value that is gone may have been the deepest
+-- the replaced value may have been the deepest
 deepest-kept : (ks : List Tree) (vs : List Value) (i : ℕ) (x : Value) (t : Tree) → i < length vs → x ≡ get_or vs i x → deepest_pair (pairs (zip ks (map tree_of vs))) ≤ max (deepest_pair (pairs (with_value_at (zip ks (map tree_of vs)) i t))) (depth (tree_of x))
 deepest-kept [] vs i x t l is = omega arith
 deepest-kept (k ∷ ks) [] i x t l is = omega arith
@@ -127,7 +127,7 @@ ArePairs-put [] i v h hs = tt
 ArePairs-put (p ∷ ps) zero v h hs = (hs.0, h, hs.2)
 ArePairs-put (p ∷ ps) (suc i) v h hs = (hs.0, hs.1, ArePairs-put ps i v h hs.2)
 
--- ---- what a call changed, where it succeeded
+-- ---- what a successful call changed
 pub put_both : {A E : Type 0} (r : Result A E) (old new : Entries) (i : ℕ) (v : Value) → OnOk r (new.domain ≡ old.domain) → OnOk r (new.values.items ≡ list_set old.values.items i v)
     → OnOk r (entry_pairs new.domain new.values.items ≡ with_value_at (entry_pairs old.domain old.values.items) i (tree_of v))
 put_both (Ok x) old new i v g h = entry_same old.domain new.domain old.values.items new.values.items i v g h
@@ -142,14 +142,14 @@ pub put_same : {X A E : Type 0} (r : Result A E) (old new : Entries) (f : Entrie
 put_same (Ok x) old new f e = tt
 put_same (Err x) old new f e = ap f e
 
--- ---- arguments and values that were read apart
+-- ---- arguments and values that were read separately
 pub same-length : (ks vs : List Value) (ps : List (Tree × Tree)) → map tree_of ks ≡ arguments ps → map tree_of vs ≡ values_of ps → length ks ≡ length vs
 same-length ks vs ps h g = omega (arith, length-map ks tree_of, length-map vs tree_of, ap length h, ap length g, length-map ps (λ (p : Tree × Tree). p.0), length-map ps (λ (p : Tree × Tree). p.1))
 
 pub pairs-back : (ks vs : List Value) (ps : List (Tree × Tree)) → map tree_of ks ≡ arguments ps → map tree_of vs ≡ values_of ps → map pair_of (zip ks vs) ≡ ps
 pairs-back ks vs ps h g = map-zip ks vs ∙ (λ j. zip (h j) (g j)) ∙ zip-parts ps
 
--- ---- what is deepest in a part
+-- ---- the greatest nesting in a part
 pub deepest-zip : (ks vs : List Value) → length ks ≡ length vs → deepest_pair (pairs (map pair_of (zip ks vs))) ≡ max (deepest (trees (map tree_of ks))) (deepest (trees (map tree_of vs)))
 deepest-zip [] [] e = refl
 deepest-zip [] (v ∷ vs) e = absurd (omega arith)
@@ -160,7 +160,7 @@ pub deepest-values : (ps : List (Tree × Tree)) → deepest (trees (values_of ps
 deepest-values [] = omega arith
 deepest-values (p ∷ ps) = omega (arith, deepest-values ps)
 
--- what was read at a place, whatever is said of places beyond
+-- what was read at an index, for any default beyond the end
 pub read_at : (xs : List Value) (i : ℕ) (d x : Value) → i < length xs → x ≡ get_or xs i x → get_or xs i d ≡ x
 read_at [] i d x l is = absurd (omega arith)
 read_at (y ∷ xs) zero d x l is = sym is
@@ -172,7 +172,7 @@ value-count vs ps h = omega (arith, length-map vs tree_of, ap length h, length-m
 pub argument-count : (ks : List Value) (ps : List (Tree × Tree)) → map tree_of ks ≡ arguments ps → length ks ≡ length ps
 argument-count ks ps h = omega (arith, length-map ks tree_of, ap length h, length-map ps (λ (p : Tree × Tree). p.0))
 
--- pairs that were split, put together again
+-- zipping split pairs restores them
 pub split_back : (ks vs : List Value) (ps : List (Tree × Tree)) (d : Domain) → map tree_of ks ≡ arguments ps → map tree_of vs ≡ values_of ps → domain_trees (length ks) d ≡ map tree_of ks → entry_pairs d vs ≡ ps
 split_back ks vs ps d h g e =
     ap (λ n. zip (domain_trees n d) (map tree_of vs)) (sym (same-length ks vs ps h g))

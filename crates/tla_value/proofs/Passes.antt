@@ -1,4 +1,4 @@
--- Passes over two rising lists side by side: what is left of each, and what was chosen so far.
+-- Passes over two rising lists: the rest of each, and the part chosen so far.
 use Rattle.std.proofs.Common.{◌≡◌, ℕ, zero, suc, ◌<◌, Bool, true, false, ◌||◌, ◌&&◌, cond, not, List, [], ◌∷◌, ◌++◌, append-nil, length, map, get_or, drop, take, refl, sym, ap, ◌∙◌, subst, arith, Less, Equal, Greater}
 use Rattle.std.specs.Bool.{beq}
 use Rattle.std.proofs.lemmas.List.Kept.{IsStrictlySortedBy-filter}
@@ -26,13 +26,13 @@ rising-drop (suc i) (t ∷ ts) h = rising-drop i ts h.1
 upper_is_other : (x q : Tree) → tree_cmp x q ≡ Less → tree_eq q x ≡ false
 upper_is_other x q e = ap is_eq (tree_cmp-total.antisymm q x ∙ ap ordering_reverse e)
 
--- what is passed over is below what is looked for
+-- the skipped items are below the one searched for
 pub passed : (vs : List Value) (i : ℕ) (x : Value) (q : Tree) → i < length vs → x ≡ get_or vs i x → tree_cmp (tree_of x) q ≡ Less
     → is_member q (drop (suc i) (map tree_of vs)) ≡ is_member q (drop i (map tree_of vs))
 passed vs i x q l is e =
     sym (ap (is_member q) (from_here tree_of vs i x l is) ∙ ap (λ b. b || is_member q (drop (suc i) (map tree_of vs))) (upper_is_other (tree_of x) q e))
 
--- what stands here is found, and what is below all that is left is not
+-- an item at this index is found, and one below all of the rest isn't
 pub stands_here : (vs : List Value) (i : ℕ) (x : Value) (q : Tree) → i < length vs → x ≡ get_or vs i x → tree_cmp (tree_of x) q ≡ Equal → is_member q (drop i (map tree_of vs)) ≡ true
 stands_here vs i x q l is e =
     ap (is_member q) (from_here tree_of vs i x l is)
@@ -51,7 +51,7 @@ stands_below vs i x q h l is e =
     ap (is_member q) (from_here tree_of vs i x l is)
     ∙ none_above q (tree_of x ∷ drop (suc i) (map tree_of vs)) (below, above tree_cmp-total q (tree_of x) (drop (suc i) (map tree_of vs)) below rest.0)
 
--- what stands in the rest of a second list is what stands in all of it, for each of the first
+-- for each item of the first list, membership in the rest of the second is membership in all of it
 abbrev pub IsAhead : List Tree → List Tree → List Tree → Type 0
 IsAhead xs rest all = AllByRecursion (λ q. is_member q rest ≡ is_member q all) xs
 
@@ -59,7 +59,7 @@ kept_ahead : (x : Tree) (xs rest next all : List Tree) → AllByRecursion (λ q.
 kept_ahead x [] rest next all h same a = tt
 kept_ahead x (q ∷ xs) rest next all h same a = (same q h.0 ∙ a.0, kept_ahead x xs rest next all h.1 same a.1)
 
--- one value on
+-- the next value
 pub ahead_more : (vs : List Value) (i : ℕ) (x : Value) (rest next all : List Tree) → IsStrictlySortedBy tree_cmp (map tree_of vs) → i < length vs → x ≡ get_or vs i x
     → ((q : Tree) → tree_cmp (tree_of x) q ≡ Less → is_member q next ≡ is_member q rest) → IsAhead (map tree_of (drop i vs)) rest all → IsAhead (map tree_of (drop (suc i) vs)) next all
 unfolding IsStrictlySortedBy
@@ -68,7 +68,7 @@ ahead_more vs i x rest next all h l is same a =
     let all_here : IsAhead (tree_of x ∷ drop (suc i) (map tree_of vs)) rest all = subst (λ (us : List Tree). IsAhead us rest all) (map-drop tree_of i vs ∙ from_here tree_of vs i x l is) a in
     subst (λ (us : List Tree). IsAhead us next all) (sym (map-drop tree_of (suc i) vs)) (kept_ahead (tree_of x) (drop (suc i) (map tree_of vs)) rest next all here.0 same all_here.1)
 
--- the value at hand, which is the first that is left
+-- the current value, which is the first of the rest
 pub ahead_here : (vs : List Value) (i : ℕ) (x : Value) (rest all : List Tree) → i < length vs → x ≡ get_or vs i x → IsAhead (map tree_of (drop i vs)) rest all → is_member (tree_of x) rest ≡ is_member (tree_of x) all
 ahead_here vs i x rest all l is a =
     let all_here : IsAhead (tree_of x ∷ drop (suc i) (map tree_of vs)) rest all = subst (λ (us : List Tree). IsAhead us rest all) (map-drop tree_of i vs ∙ from_here tree_of vs i x l is) a in
@@ -79,7 +79,7 @@ take_here [] i x l e = absurd (omega arith)
 take_here (v ∷ vs) zero x l e = λ k. tree_of (sym e k) ∷ []
 take_here (v ∷ vs) (suc i) x l e = ap (λ ts. tree_of v ∷ ts) (take_here vs i x (omega arith) e)
 
--- the filter of one value more
+-- the filter with one more value
 pub chosen_more : (shared : Bool) (others : List Tree) (vs : List Value) (i : ℕ) (x : Value) (old new : List Tree) → i < length vs → x ≡ get_or vs i x → (wanted : Bool)
     → wanted ≡ cond shared (is_member (tree_of x) others) (not (is_member (tree_of x) others)) → new ≡ cond wanted (old ++ tree_of x ∷ []) old
     → old ≡ chosen_of shared others (map tree_of (take i vs)) → new ≡ chosen_of shared others (map tree_of (take (suc i) vs))
@@ -99,7 +99,7 @@ as_wanted true false = refl
 as_wanted false true = refl
 as_wanted false false = refl
 
--- one that stands there is not asked for again
+-- an item that was found is not searched again
 pub all_more : (vs : List Value) (i : ℕ) (x : Value) (all : List Tree) → i < length vs → x ≡ get_or vs i x → is_member (tree_of x) all ≡ true
     → list_all (λ t. is_member t all) (map tree_of (drop (suc i) vs)) ≡ list_all (λ t. is_member t all) (map tree_of (drop i vs))
 all_more vs i x all l is e =

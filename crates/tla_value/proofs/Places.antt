@@ -1,4 +1,4 @@
--- Where an argument stands, and what stands beside it.
+-- The index of an argument, and its value.
 use Rattle.std.proofs.Common.{◌≡◌, ℕ, zero, suc, ◌<◌, false, cond, List, [], ◌∷◌, Some, None, length, map, get_or, refl, sym, ap, subst, ◌∙◌, arith, Less}
 use Rattle.std.specs.Prelude.{slice_get}
 use Rattle.std.specs.List.{AllByRecursion}
@@ -66,7 +66,7 @@ slice-within [] i t e = cc
 slice-within (u ∷ ts) zero t e = omega arith
 slice-within (u ∷ ts) (suc i) t e = omega (arith, slice-within ts i t e)
 
--- ---- the value that was read at an argument's place
+-- ---- the value that was read at an argument's index
 pub value_within : (ps : List (Tree × Tree)) (a : Tree) (i : ℕ) (vs : List Value) → map tree_of vs ≡ values_of ps → slice_get (arguments ps) i ≡ Some a → i < length vs
 value_within ps a i vs e there =
     omega (arith, slice-within (arguments ps) i a there, length-map ps (λ (p : Tree × Tree). p.0), length-map ps (λ (p : Tree × Tree). p.1), ap length e, length-map vs tree_of)

@@ -1,4 +1,4 @@
--- Numbers that are counted up: one more, how many, and that they rise.
+-- Consecutive numbers: one more, their count, and that they rise.
 use Rattle.std.proofs.Common.{◌≡◌, ℕ, zero, suc, ℤ, pos, ◌+ℤ◌, ◌-ℤ◌, ◌<ℤ◌, ◌≤ℤ◌, cond, int_le, unsigned_abs, true, false, List, [], ◌∷◌, ◌++◌, length, map, take, get_or, refl, sym, ap, ◌∙◌, arith, Less, Greater, Some, ◌<◌, ◌≤◌, to_z, of_z, w64, FitsSigned}
 use Rattle.std.specs.Prelude.{slice_get}
 use Rattle.std.specs.List.{AllByRecursion}
@@ -56,7 +56,7 @@ range_none a b h = ap (λ t. cond t (counted_up (suc (unsigned_abs (b -ℤ a))) 
 pub pushed : (old new : List Value) (n : ℕ) (z x : ℤ) → new ≡ old ++ Int x ∷ [] → x ≡ z +ℤ pos n → map tree_of old ≡ counted_up n z → map tree_of new ≡ counted_up (suc n) z
 pushed old new n z x e f h = ap (map tree_of) e ∙ map-append tree_of old (Int x ∷ []) ∙ ap (λ y. map tree_of old ++ int y ∷ []) f ∙ ap (λ ts. ts ++ int (z +ℤ pos n) ∷ []) h ∙ sym (counted_up-push n z)
 
--- ---- which numbers stand among them, and where
+-- ---- which numbers are among them, and their indices
 int_more : (x z : ℤ) → z <ℤ x → int_cmp x z ≡ Greater
 int_more x z h = grind (arith, ints)
 
@@ -84,7 +84,7 @@ member-other (suc n) z (Model s) h = member-other n (z +ℤ pos 1) (Model s) h
 member-other (suc n) z (Set s) h = member-other n (z +ℤ pos 1) (Set s) h
 member-other (suc n) z (Fun s) h = member-other n (z +ℤ pos 1) (Fun s) h
 
--- one more of some values that are counted up
+-- one more of some consecutive values
 pub counted_more : (vs : List Value) (i : ℕ) (z : ℤ) (v : Value) → i < length vs → v ≡ get_or vs i v → tree_of v ≡ int (z +ℤ pos i) → map tree_of (take i vs) ≡ counted_up i z → map tree_of (take (suc i) vs) ≡ counted_up (suc i) z
 counted_more vs i z v l is e h =
     ap (map tree_of) (take-suc vs i v l ∙ ap (λ x. take i vs ++ x ∷ []) (sym is))
@@ -93,6 +93,6 @@ counted_more vs i z v l is e h =
     ∙ ap (λ ts. ts ++ int (z +ℤ pos i) ∷ []) h
     ∙ sym (counted_up-push i z)
 
--- a number so far above another, as it is computed
+-- a number plus a distance, as the code computes it
 pub counted_sum : (x : ℤ) (i n : ℕ) → FitsSigned w64 x → i < n → n ≤ 1000000 → (x +ℤ pos n) ≤ℤ pos 9223372036854775808 → to_z w64 (of_z w64 (to_z w64 (of_z w64 x) +ℤ to_z w64 i)) ≡ x +ℤ pos i
 counted_sum x i n fits at few within = omega (arith, ints)

@@ -1,4 +1,4 @@
--- The set of records with some fields is the set of functions on the names, in order, into the sets beside them.
+-- The set of records is the set of functions on the sorted names into the sets of the names.
 use Rattle.std.proofs.Common.{◌≡◌, ℕ, Bool, true, false, ◌&&◌, IsTrue, List, [], ◌∷◌, map, zip, length, refl, sym, ap, subst, ◌∙◌, arith, Result}
 use Rattle.std.specs.List.{AllByRecursion, list_all, flat_map}
 use Rattle.std.specs.List.Sorted.{IsStrictlySortedBy}
@@ -113,7 +113,7 @@ rising-names fs ps ks e f = subst (IsStrictlySortedBy tree_cmp) (sym (f ∙ ap a
 pub once-is : (b : Bool) → IsTrue b → b ≡ true
 once-is b h = h
 
--- the records, from the names and the sets that the code has
+-- the records, from the names and the sets of the code
 pub makes_records : (fs : List (List ℕ × List Tree)) (ps : List (Tree × Tree)) (ks : List Tree) (lists : List (List Tree)) (result : Result (List Tree) ValueError) → IsTrue (is_each_once (keys_of fs)) → ps ≡ fun_of (keyed fs)
     → ks ≡ arguments ps → images ps ≡ as_sets lists → AllByRecursion (IsStrictlySortedBy tree_cmp) lists → MakesSetOfFunctions (set_of (functions_by ks lists)) result → MakesSetOfFunctions (set_of (records_of fs)) result
 makes_records fs ps ks lists result once e f sets rising made =

@@ -1,4 +1,4 @@
--- When values, lists of them and functions are the same, and what shows that they are not.
+-- When values, lists of them and functions are equal, and when they are not.
 use Rattle.std.proofs.Common.{◌≡◌, ◌↔◌, ℕ, suc, ◌<◌, ◌++◌, Bool, true, false, nat_eq, List, [], ◌∷◌, length, map, take, get_or, sym, ap, subst, ◌∙◌}
 use Rattle.std.proofs.Math.Seq.{take-suc}
 use Rattle.std.specs.Ordering.{eq_by_cmp}
@@ -14,7 +14,7 @@ use Rattle.tla_value.specs.StateOrder.{state_cmp, state_cmp-total, exact-state}
 use Rattle.tla_value.specs.declared.value.Value.{Value}
 use Rattle.tla_value.proofs.TreeTests.{bool-iff, eq-true, eq-same}
 
--- a test of two values, by what they hold
+-- a test of two values, by their contents
 pub told_sets : (r : Bool) (ss ts : List Tree) → ((r ≡ true) ↔ (ss ≡ ts)) → r ≡ tree_eq (set (trees ss)) (set (trees ts))
 told_sets r ss ts h =
     bool-iff r (tree_eq (set (trees ss)) (set (trees ts)))
@@ -39,11 +39,11 @@ told_funs r ps qs h =
     fun-inside : (us vs : List (Tree × Tree)) → fun (pairs us) ≡ fun (pairs vs) → us ≡ vs
     fun-inside us vs q = sym (entries-pairs us) ∙ ap entries (inside (pairs us) (pairs vs) q) ∙ entries-pairs vs
 
--- what a number tells apart
+-- values with different numbers differ
 pub apart : {A : Type 0} (f : A → ℕ) (x y : A) (m n : ℕ) → m ≡ f x → n ≡ f y → (m ≡ n → ⊥) → (nat_eq m n ≡ true) ↔ (x ≡ y)
 apart f x y m n p q e = (λ t. absurd (e (eqb-true m n t)), λ same. absurd (e (p ∙ ap f same ∙ sym q)))
 
--- a test of two, by what they are equal to
+-- a test of two values, by equal ones
 pub told_of : {A : Type 0} (r : Bool) (x y u v : A) → u ≡ x → v ≡ y → ((r ≡ true) ↔ (u ≡ v)) → (r ≡ true) ↔ (x ≡ y)
 told_of r x y u v p q h = (λ e. sym p ∙ h.0 e ∙ q, λ same. h.1 (p ∙ same ∙ sym q))
 
@@ -57,7 +57,7 @@ pub same_more : (vs ws : List Value) (i : ℕ) (v w : Value) → i < length vs �
 same_more vs ws i v w l m p q e h =
     taken vs i v l p ∙ (λ j. h j ++ eq-true (tree_of v) (tree_of w) e j ∷ []) ∙ sym (taken ws i w m q)
 
--- the tree at a place
+-- the tree at an index
 tree_at : (vs : List Value) (i : ℕ) (v : Value) (d : Tree) → i < length vs → v ≡ get_or vs i v → get_or (map tree_of vs) i d ≡ tree_of v
 tree_at vs i v d l is = get_or-map tree_of vs i v d l ∙ ap tree_of (sym is)
 

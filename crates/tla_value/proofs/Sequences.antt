@@ -1,4 +1,4 @@
--- How long a sequence is, and when a function is one.
+-- The length of a sequence, and when a function is one.
 use Rattle.std.proofs.Common.{◌≡◌, ◌∙◌, ℕ, zero, suc, ap, sym, subst, ◌+◌, ◌<◌, ℤ, pos, ◌&&◌, arith, Bool, true, false, Option, Some, None, is_some, option_map, List, [], ◌∷◌, length, refl}
 use Rattle.tla_value.specs.Tree.{Tree, int}
 use Rattle.tla_value.specs.Order.{tree_eq}
@@ -19,7 +19,7 @@ pub length-items_from : (k : ℕ) (ps : List (Tree × Tree)) → is_some (items_
 length-items_from k [] e = refl
 length-items_from k (p ∷ ps) e = length-with_item _ p.1 (items_from (k + 1) ps) (length ps) (length-items_from (k + 1) ps) e
 
--- ---- whether the arguments are counted up tells a sequence
+-- ---- a function is a sequence exactly if its arguments are consecutive from 1
 some-item : (b : Bool) (t : Tree) (r : Option (List Tree)) → is_some (with_item b t r) ≡ (b && is_some r)
 some-item true t (Some ts) = refl
 some-item true t None = refl

@@ -1,4 +1,4 @@
--- Lists of texts, written one after another.
+-- Lists of texts, written in turn.
 use Rattle.std.proofs.Common.{◌≡◌, ◌==◌, codes, Bool, true, false, is_some, ℤ, pos, ℕ, zero, suc, zip, ◌<◌, ◌≤◌, Option, Result, Ok, Err, List, [], ◌∷◌, ◌++◌, append_assoc, append-nil, length, map, get_or, take, drop, refl, ap, sym, ◌∙◌, arith}
 use Rattle.std.proofs.lemmas.List.{length-map, take_all}
 use Rattle.std.specs.List.{flat_map, list_all}
@@ -91,35 +91,35 @@ length-field_texts ps = rw (field_texts-map ps) (length-map ps (λ (p : Value ×
 pub length-pair_texts : (ps : List (Value × Value)) → length (pair_texts (pairs (map pair_of ps))) ≡ length ps
 length-pair_texts ps = rw (pair_texts-map ps) (length-map ps (λ (p : Value × Value). text_of (tree_of p.0) ++ (codes " :> " ++ text_of (tree_of p.1))))
 
--- ---- written one after another
--- the next text went out
+-- ---- written in turn
+-- the next text was written
 pub puts_more : {a b c : Option (List ℕ)} {before middle after : ℕ} {separator piece : List ℕ} {ts : List (List ℕ)} {i : ℕ}
     → IsNext separator ts i piece → Puts a b before (joined separator (take i ts)) (Ok middle) → Puts b c middle piece (Ok after) → Puts a c before (joined separator (take (suc i) ts)) (Ok after)
 puts_more step p q = rw step.more (puts_then p q)
 
--- the next text did not go out whole
+-- only a part of the next text was written
 pub puts_cut : {a b c : Option (List ℕ)} {before middle : ℕ} {separator piece : List ℕ} {ts : List (List ℕ)} {i : ℕ} {fault : ShortWrite}
     → IsNext separator ts i piece → Puts a b before (joined separator (take i ts)) (Ok middle) → Puts b c middle piece (Err fault) → Puts a c before (joined separator ts) (Err fault)
 puts_cut step p q = rw (step.whole, step.more) (puts_short step.rest (puts_then p q))
 
--- all went out
+-- all were written
 pub puts_joined : {a b : Option (List ℕ)} {before after : ℕ} (separator : List ℕ) (ts : List (List ℕ)) (i : ℕ)
     → length ts ≤ i → Puts a b before (joined separator (take i ts)) (Ok after) → Puts a b before (joined separator ts) (Ok after)
 puts_joined separator ts i within p = rw (take_all i ts within) at p
 
--- the next text of an opened list did not go out whole
+-- only a part of the next text of an opened list was written
 pub puts_stopped : {a b c d : Option (List ℕ)} {before start middle : ℕ} {opening separator piece : List ℕ} {ts : List (List ℕ)} {i : ℕ} {fault : ShortWrite} (closing : List ℕ)
     → IsNext separator ts i piece → Puts a b before opening (Ok start) → Puts b c start (joined separator (take i ts)) (Ok middle) → Puts c d middle piece (Err fault)
     → Puts a d before (listed opening separator closing ts) (Err fault)
 puts_stopped closing step o p q = puts_then o (puts_short closing (puts_cut step p q))
 
--- all went out, and then what closes the list, or not the whole of that
+-- all were written, and then the closing text or a part of it
 pub puts_listed : {a b c d : Option (List ℕ)} {before start middle : ℕ} {opening closing : List ℕ} {r : Result ℕ ShortWrite} (separator : List ℕ) (ts : List (List ℕ)) (i : ℕ)
     → length ts ≤ i → Puts a b before opening (Ok start) → Puts b c start (joined separator (take i ts)) (Ok middle) → Puts c d middle closing r
     → Puts a d before (listed opening separator closing ts) r
 puts_listed separator ts i within o p q = puts_then o (puts_then (puts_joined separator ts i within p) q)
 
--- a string in quotes: a byte did not go out whole, and all went out
+-- a string in quotes: only a part of a byte's text was written, and all were written
 pub quoted_stopped : {a b c d : Option (List ℕ)} {before start middle : ℕ} {fault : ShortWrite} (s : List ℕ) (i : ℕ) (e : ℕ) → i < length s
     → Puts a b before (codes "\"") (Ok start) → Puts b c start (flat_map escaped (take i s)) (Ok middle) → Puts c d middle (escaped (get_or s i e)) (Err fault) → Puts a d before (quoted s) (Err fault)
 quoted_stopped s i e l o p q =
@@ -148,7 +148,7 @@ pub text-pairs : (vs : List (Value × Value)) → (length vs == 0) ≡ false →
 text-pairs [] l h k = cc
 text-pairs (v ∷ vs) l h k = rw (entries-pairs (map pair_of vs), h, k)
 
--- ---- the notations, of arguments and values in two lists
+-- ---- the notations, for arguments and values in two lists
 values-texts : (ks vs : List Value) → length ks ≡ length vs → value_texts (pairs (map pair_of (zip ks vs))) ≡ member_texts (trees (map tree_of vs))
 values-texts [] [] e = refl
 values-texts [] (v ∷ vs) e = absurd (omega arith)

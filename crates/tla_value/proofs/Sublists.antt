@@ -48,7 +48,7 @@ high_test n k m = grind (arith, nat_tests)
 twice : (n : ℕ) → 2 ^ suc n ≡ 2 ^ n + 2 ^ n
 twice n = omega (arith, pow-suc 2 n)
 
--- of two equal halves the number names one in the lower half, or one in the upper with the number less the half
+-- a number below the half is a sublist of the lower half; else the number minus the half is one of the upper half
 past_half : (n k : ℕ) → n ≤ k → k < n + n → k % n ≡ k - n
 past_half n k l h = let e : k ≡ n + (k - n) = omega arith in ap (λ m. m % n) e ∙ add-mod_left n (k - n) ∙ mod-eq_of_lt (omega arith)
 

@@ -64,7 +64,7 @@ set-members l k e q =
     inside : (a b : _) → set a ≡ set b → members a ≡ members b
     inside a b f = let g : a ≡ b = cc in ap members g
 
--- with one tree more that neither has, they differ as before
+-- with one more tree that neither has, they still differ
 more-apart : (x : Tree) (l k : List Tree) → is_member x l ≡ false → is_member x k ≡ false → set_tree (x ∷ l) ≡ set_tree (x ∷ k) → set_tree l ≡ set_tree k
 more-apart x l k h j e =
     ap (λ us. set (trees us)) (set-unique (set_of l) (set_of k) (rising-set_of l) (rising-set_of k) (λ q. is_member-set_of l q ∙ same q ∙ sym (is_member-set_of k q)))
@@ -88,7 +88,7 @@ apart-more x (l ∷ ls) h a = (none ls h.1 a.0, apart-more x ls h.1 a.1)
         unequal : (t u : Tree) → tree_eq t u ≡ false → t ≡ u → ⊥
         unequal t u f g = let e1 : tree_eq t t ≡ true = eq-refl t in let e2 : tree_eq t t ≡ false = ap (tree_eq t) g ∙ f in cc
 
--- a sublist without a tree makes another set than one with it
+-- a sublist without a tree has another set than one with it
 with-and-without : (x : Tree) (ls ks : List (List Tree)) → AllByRecursion (λ l. is_member x l ≡ false) ls → AllByRecursion (λ t. is_member t (map set_tree (map (λ c. x ∷ c) ks)) ≡ false) (map set_tree ls)
 with-and-without x [] ks h = tt
 with-and-without x (l ∷ ls) ks h = (none ks, with-and-without x ls ks h.1)

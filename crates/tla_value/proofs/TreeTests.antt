@@ -1,4 +1,4 @@
--- Tests of trees, alone and over a list: what it says that they are true or false.
+-- What true and false tests of trees mean, alone and over a list.
 use Rattle.std.proofs.Common.{◌≡◌, ◌⊎◌, Bool, true, false, cond, not, ◌&&◌, ◌||◌, List, [], ◌∷◌, filter, refl, sym, ap, subst, ◌∙◌, inl, inr, ⊎_elim}
 use Rattle.std.specs.Ordering.{is_eq}
 use Rattle.std.specs.List.{list_any, flat_map}

@@ -1,4 +1,4 @@
--- Tuples are the functions on 1 to n, and what their call answers.
+-- Tuples are the functions on 1 to n; the result of their call.
 use Rattle.std.proofs.Common.{◌≡◌, ℕ, zero, suc, ◌+◌, ◌<◌, ◌≤◌, List, [], ◌∷◌, length, map, zip, refl, sym, ap, subst, ◌∙◌, arith, ℤ, pos, ◌+ℤ◌, Result, Ok, Err, true, false, ◌==◌}
 use Rattle.std.specs.List.{AllByRecursion}
 use Rattle.std.specs.List.Sorted.{IsStrictlySortedBy}

@@ -1,4 +1,4 @@
--- All ways to choose: how many there are, and the one with a number.
+-- All choices: their number, and the one with a number.
 use Rattle.std.proofs.Common.{◌≡◌, ℕ, zero, suc, ◌+◌, ◌*◌, ◌/◌, ◌%◌, ◌<◌, ◌≤◌, false, List, [], ◌∷◌, ◌++◌, append_assoc, max, length, map, zip, get_or, drop, refl, sym, ap, subst, ◌∙◌, arith}
 use Rattle.std.specs.List.{flat_map}
 use Rattle.std.proofs.Math.Nat.{mul-div_cancel_left, mod-lt, zero-mul, mul-zero, div-lt_iff_lt-mul, suc-mul}
@@ -12,13 +12,13 @@ use Rattle.tla_value.specs.declared.value.Value.{Value}
 use Rattle.tla_value.specs.Choices.{choices}
 use Rattle.tla_value.specs.Private.Inner.{ways, choice_of}
 
--- what is left from a place on
+-- the rest from an index on
 pub from_place : {A B : Type 0} (f : A → B) (xs : List A) (i : ℕ) (x : A) → i < length xs → x ≡ get_or xs i x → drop i (map f xs) ≡ f x ∷ drop (suc i) (map f xs)
 from_place f [] i x l e = absurd (omega arith)
 from_place f (y ∷ xs) zero x l e = ap (λ z. f z ∷ map f xs) (sym e)
 from_place f (y ∷ xs) (suc i) x l e = from_place f xs i x (omega arith) e
 
--- ---- how many
+-- ---- the number of choices
 length-blocks : (cs : List (List Tree)) (xs : List Tree) → length (flat_map (λ x. map (λ c. x ∷ c) cs) xs) ≡ length xs * length cs
 length-blocks cs [] = sym (zero-mul (length cs))
 length-blocks cs (x ∷ xs) =
@@ -53,7 +53,7 @@ block-at cs (x ∷ xs) (suc q) r l m =
     after : (n p s : ℕ) → suc p * n + s ≡ n + (p * n + s)
     after n p s = omega (arith, suc-mul p n)
 
--- what the number of a choice says of its first part and of the rest
+-- the number of a choice determines its first part and the number of the rest
 pub record IsStep (xs : List Tree) (rest : List (List Tree)) (w k : ℕ) : Type 0 where
   pub some : 0 < length xs
   pub next : w / length xs ≡ ways rest
@@ -91,7 +91,7 @@ choices-at (xs ∷ rest) k l =
     ∙ block-at (choices rest) xs (k / m) (k % m) s.below (subst (λ (n : ℕ). k % m < n) (sym (length-choices rest)) s.left)
     ∙ ap (λ c. get_or xs (k / m) (truth false) ∷ c) (choices-at rest (k % m) s.left)
 
--- the same of the set at a place, with its length and the quotient as the code has them
+-- the same for the set at an index, with its length and the quotient as the code computes them
 pub record IsStepAt (xs : List Tree) (rest : List (List Tree)) (n w k : ℕ) : Type 0 where
   pub some : 0 < n
   pub next : w / n ≡ ways rest
@@ -112,12 +112,12 @@ step_at now sets i s n w k l is e f h =
       left = subst (λ (m : ℕ). k % m < m) (sym next) one.left;
     }
 
--- ---- pairs that are picked so far
+-- ---- the pairs picked so far
 pub deepest-push : (ps : List (Tree × Tree)) (p : Tree × Tree) → deepest_pair (pairs (ps ++ p ∷ [])) ≡ max (deepest_pair (pairs ps)) (max (depth p.0) (depth p.1))
 deepest-push [] p = omega arith
 deepest-push (q ∷ ps) p = omega (arith, deepest-push ps p)
 
--- one pair more
+-- one more pair
 pub picked_more : (old new : List (Tree × Tree)) (a v : Tree) (arguments xs : List Tree) (rest : List (List Tree)) (args : List Tree) (lists : List (List Tree)) (k w : ℕ) (whole : List (Tree × Tree))
     → args ≡ a ∷ arguments → lists ≡ xs ∷ rest → w ≡ ways rest → v ≡ get_or xs (k / w) (truth false) → new ≡ old ++ (a, v) ∷ []
     → old ++ zip args (choice_of lists k) ≡ whole → new ++ zip arguments (choice_of rest (k % w)) ≡ whole

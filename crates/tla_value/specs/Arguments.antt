@@ -1,4 +1,4 @@
--- The arguments of a function, as they are lent: the numbers from one on, as many as there are values, or a rising list.
+-- The arguments of a function, borrowed: consecutive numbers, as many as there are values, or a rising list.
 use Rattle.std.specs.Prelude.{◌≡◌, ℕ, zero, suc, ◌<◌, ℤ, pos, ◌+ℤ◌, List, [], ◌∷◌, length}
 use Rattle.tla_value.specs.IsValue.{FitNumbers}
 use Rattle.tla_value.specs.declared.value.Value.{Value}

@@ -1,16 +1,16 @@
--- Sets given by all ways to choose: SUBSET, products, sets of functions and of records, ranges. (Book, chapter 16.)
+-- Sets of all choices: SUBSET, products, sets of functions and of records; and ranges. (Book, chapter 16.)
 use Rattle.std.specs.Prelude.{ℕ, zero, suc, ◌+◌, ℤ, pos, ◌+ℤ◌, ◌-ℤ◌, int_le, unsigned_abs, Bool, true, false, not, ◌&&◌, List, [], ◌∷◌, ◌++◌, map, filter, zip, Option, Some, None, if◌then◌else◌}
 use Rattle.std.specs.List.{list_all, flat_map}
 use Rattle.tla_value.specs.Tree.{Tree, int, text, set, fun, trees, pairs, entries}
 use Rattle.tla_value.specs.Sets.{is_member, set_of}
 use Rattle.tla_value.specs.Funs.{value_at}
 
--- all lists with one tree of each list, in order. The first list varies slowest.
+-- all lists with one tree of each list, in their order; the choice from the first list varies slowest
 abbrev pub choices : List (List Tree) → List (List Tree)
 choices [] = [] ∷ []
 choices (xs ∷ rest) = flat_map (λ x. map (λ c. x ∷ c) (choices rest)) xs
 
--- all functions with these arguments and, at each, one of the values of the list beside it
+-- all functions that map each argument to a value of its list
 abbrev pub functions_by : List Tree → List (List Tree) → List Tree
 functions_by xs lists = map (λ c. fun (pairs (zip xs c))) (choices lists)
 
@@ -34,7 +34,7 @@ numbered k (t ∷ ts) = (int (pos k), t) ∷ numbered (k + 1) ts
 abbrev pub sequence : List Tree → Tree
 sequence ts = fun (pairs (numbered 1 ts))
 
--- S \X T ..: the tuples with one part of each set
+-- S \X T ..: the tuples with one item of each set
 abbrev pub tuples_of : List (List Tree) → List Tree
 tuples_of sets = map sequence (choices sets)
 
@@ -42,7 +42,7 @@ tuples_of sets = map sequence (choices sets)
 abbrev pub functions_of : List Tree → List Tree → List Tree
 functions_of xs ys = functions_by xs (map (λ (x : Tree). ys) xs)
 
--- [a : S, ..]: of the functions on the names, into the members of all the sets, those that have each field in its set
+-- [a : S, ..]: the functions on the names whose value at each name is in the name's set
 abbrev pub keys_of : {A : Type 0} → List (List ℕ × A) → List Tree
 keys_of {A} fs = map (λ (f : List ℕ × A). text f.0) fs
 

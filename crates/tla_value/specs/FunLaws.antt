@@ -1,4 +1,4 @@
--- The rising pairs of some pairs: they rise, each argument keeps its first value, and no other list does both.
+-- `fun_of` returns rising pairs, in which each argument has its first value, and no other list does both.
 use Rattle.std.specs.Prelude.{◌≡◌, Bool, true, false, cond, List, [], ◌∷◌, Option, Some, None, refl}
 use Rattle.std.proofs.Common.{ap, sym, ◌∙◌}
 use Rattle.std.specs.declared.cmp.Ordering.TheVariants.{Less, Equal, Greater}
@@ -86,7 +86,7 @@ here x xs = ap (λ b. cond b (Some x.1) (value_at x.0 xs)) (ap is_eq (tied_itsel
 skip : (x : Pair) (xs : List Pair) (q : Tree) → eq_by_cmp tree_cmp q x.0 ≡ false → value_at q (x ∷ xs) ≡ value_at q xs
 skip x xs q e = ap (λ b. cond b (Some x.1) (value_at q xs)) e
 
--- an argument below all those of some pairs has no value there
+-- an argument below all those of some pairs has no value in them
 pub none_below : (k : Tree) (ys : List Pair) → AllByRecursion (λ y. tree_cmp k y ≡ Less) (keys_of ys) → value_at k ys ≡ None
 none_below k [] h = refl
 none_below k (y ∷ ys) h = skip y ys k (ap is_eq h.0) ∙ none_below k ys h.1
@@ -108,7 +108,7 @@ same_head x y xs ys h j same =
 inside : (t u : Tree) → Some t ≡ Some u → t ≡ u
 inside t u e = cc
 
--- rising pairs are known by their values
+-- two lists of rising pairs with the same values are equal
 pub fun-unique : (xs ys : List Pair) → IsStrictlySortedBy tree_cmp (keys_of xs) → IsStrictlySortedBy tree_cmp (keys_of ys) → ((q : Tree) → value_at q xs ≡ value_at q ys) → xs ≡ ys
 unfolding IsStrictlySortedBy
 fun-unique [] [] h j same = refl

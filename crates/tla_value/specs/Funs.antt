@@ -17,25 +17,25 @@ arguments ps = map (λ (p : Tree × Tree). p.0) ps
 abbrev pub values_of : List (Tree × Tree) → List Tree
 values_of ps = map (λ (p : Tree × Tree). p.1) ps
 
--- the value beside the first pair with this argument
+-- the value of the first pair with this argument
 abbrev pub value_at : Tree → List (Tree × Tree) → Option Tree
 value_at t ps = lookup (tree_eq t) ps
 
--- the pairs in rising order, and of those with one argument the first
+-- the pairs in rising order; of those with the same argument only the first
 abbrev pub fun_of : List (Tree × Tree) → List (Tree × Tree)
 fun_of [] = []
 fun_of (p ∷ ps) = insert_entry tree_cmp (fun_of ps) p.0 p.1
 
--- another value at one argument. Outside the domain nothing changes. (Book, chapter 16: EXCEPT.)
+-- replaces the value at one argument; outside the domain nothing changes (Book, chapter 16: EXCEPT)
 abbrev pub except_of : Tree → Tree → List (Tree × Tree) → List (Tree × Tree)
 except_of a v ps = map (λ (p : Tree × Tree). (p.0, cond (tree_eq a p.0) v p.1)) ps
 
--- one item before the others, where there are any others to stand before
+-- an item before the others, if the test is true and there are others
 abbrev pub with_item : Bool → Tree → Option (List Tree) → Option (List Tree)
 with_item true t (Some ts) = Some (t ∷ ts)
 with_item _ t _ = None
 
--- the values, where the arguments are k, k + 1, ..
+-- the values, if the arguments are k, k + 1, ..
 abbrev pub items_from : ℕ → List (Tree × Tree) → Option (List Tree)
 items_from k [] = Some []
 items_from k (p ∷ ps) = with_item (tree_eq p.0 (int (pos k))) p.1 (items_from (k + 1) ps)
@@ -44,13 +44,13 @@ items_from k (p ∷ ps) = with_item (tree_eq p.0 (int (pos k))) p.1 (items_from 
 abbrev pub items_of : List (Tree × Tree) → Option (List Tree)
 items_of ps = items_from 1 ps
 
--- why these pairs make no function: the first limit that they pass. Memory may be refused at any time.
+-- why there is no function of these pairs: the first limit that they exceed; memory may run out at any time
 abbrev pub RefusesFun : List (Tree × Tree) → ValueError → Type 0
 RefusesFun ps TooMany = MAX_ELEMENTS < length ps
 RefusesFun ps TooDeep = (length ps ≤ MAX_ELEMENTS) × (MAX_NESTING ≤ deepest_pair (pairs ps))
 RefusesFun ps Memory = Unit {0}
 
--- the answer is the function of these pairs, or says why there is none
+-- the result is the function of these pairs, or the reason why there is none
 abbrev pub MakesFun : List (Tree × Tree) → Result (List (Tree × Tree)) ValueError → Type 0
 MakesFun ps (Ok f) = (f ≡ ps) × IsValue (fun (pairs ps))
 MakesFun ps (Err e) = RefusesFun ps e

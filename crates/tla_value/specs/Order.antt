@@ -6,7 +6,7 @@ use Rattle.std.specs.Ordering.{nat_cmp, int_cmp, bool_cmp, ordering_then, eq_by_
 use Rattle.std.specs.Cmp.Lexicographic.{slice_cmp}
 use Rattle.tla_value.specs.Tree.{Tree, Trees, Pairs, truth, int, text, model, set, fun, no_trees, more_trees, no_pairs, more_pairs, tree_count, pair_count}
 
--- the place of a tree's kind: truth value, number, string, model value, set, function
+-- the rank of a tree's kind: truth value, number, string, model value, set, function
 abbrev pub kind : Tree → ℕ
 kind (truth b) = 0
 kind (int z) = 1

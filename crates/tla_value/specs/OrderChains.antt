@@ -1,4 +1,4 @@
--- What two answers of an order say of a third. The laws of the order cite this file, and nothing else does.
+-- Transitivity: what two comparisons imply for a third. Only the laws of the order cite this file.
 use Rattle.std.specs.Prelude.{◌≡◌, refl}
 use Rattle.std.proofs.Common.{ap, sym, ◌∙◌}
 use Rattle.std.specs.declared.cmp.Ordering.{Ordering}
@@ -9,7 +9,7 @@ use Rattle.std.proofs.lemmas.Cmp.{nat_list_cmp_total}
 use Rattle.tla_value.specs.Tree.{Tree, Trees, Pairs, truth, int, text, model, set, fun, no_trees, more_trees, no_pairs, more_pairs, tree_count, pair_count}
 use Rattle.tla_value.specs.Order.{kind, same_kind_cmp, trees_cmp, pairs_cmp}
 
--- what two answers say of a third: c, of the outer two, where a is of the first two and b of the last two
+-- what the comparisons a of x and y, and b of y and z, imply for c of x and z
 abbrev pub Chains : Ordering → Ordering → Ordering → Type 0
 Chains Equal b c = c ≡ b
 Chains Less Less c = c ≡ Less
@@ -19,7 +19,7 @@ Chains Greater Greater c = c ≡ Greater
 Chains Greater Equal c = c ≡ Greater
 Chains Greater Less c = Unit {0}
 
--- one order and then another, where the second counts only at a tie of the first
+-- lexicographic order: the second comparison counts only if the first is Equal
 pub chains-then : (a b c a' b' c' : Ordering) → Chains a b c → (a ≡ Equal → b ≡ Equal → Chains a' b' c') → Chains (ordering_then a a') (ordering_then b b') (ordering_then c c')
 chains-then Less Less c a' b' c' p q = rw p
 chains-then Less Equal c a' Less c' p q = rw p

@@ -1,4 +1,4 @@
--- Values that the order does not tell apart have equal parts. The laws of the order and of states cite this file.
+-- Values that compare Equal have equal parts. Only the laws of the order and of states cite this file.
 use Rattle.std.specs.Prelude.{◌≡◌, Bool, refl, true, false}
 use Rattle.std.proofs.Common.{ap}
 use Rattle.std.specs.declared.cmp.Ordering.{Ordering}

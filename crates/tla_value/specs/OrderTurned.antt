@@ -1,4 +1,4 @@
--- The order of values, turned round. The laws of the order cite this file, and nothing else does.
+-- The order of values, reversed. Only the laws of the order cite this file.
 use Rattle.std.specs.Prelude.{◌≡◌, refl}
 use Rattle.std.specs.declared.cmp.Ordering.{Ordering}
 use Rattle.std.specs.declared.cmp.Ordering.TheVariants.{Less, Equal, Greater}

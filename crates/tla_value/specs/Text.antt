@@ -10,7 +10,7 @@ abbrev pub truth_text : Bool → List ℕ
 truth_text true = codes "TRUE"
 truth_text false = codes "FALSE"
 
--- a byte of a string: `"`, `\`, tab, line feed, form feed and carriage return after a `\`, as `"`, `\`, `t`, `n`, `f` and `r`
+-- a byte of a string; `"`, `\`, tab, line feed, form feed and carriage return are `\"`, `\\`, `\t`, `\n`, `\f` and `\r`
 abbrev pub escaped : ℕ → List ℕ
 escaped b =
     if b == 34 then 92 ∷ 34 ∷ [] else (if b == 92 then 92 ∷ 92 ∷ [] else (if b == 9 then 92 ∷ 116 ∷ [] else

@@ -1,4 +1,4 @@
--- Which strings stand as a field's name without quotes: identifiers that are not reserved. (Book, chapter 15.)
+-- Which strings are written as a field's name without quotes: identifiers that are not reserved. (Book, chapter 15.)
 use Rattle.std.specs.Prelude.{ℕ, Bool, not, ◌&&◌, ◌||◌, ◌==◌, List, [], ◌∷◌, codes, nat_eq}
 use Rattle.std.specs.Char.{is_ascii_alphabetic, is_ascii_alphanumeric}
 use Rattle.std.specs.List.{list_any, list_all, starts_with}
@@ -16,7 +16,7 @@ begins_fairness s = starts_with nat_eq s (codes "WF_") || starts_with nat_eq s (
 abbrev pub is_identifier : List ℕ → Bool
 is_identifier s = list_all is_word_byte s && (list_any is_ascii_alphabetic s && not (begins_fairness s))
 
--- the words of the language, and those of the whole language that it refuses
+-- the reserved words, also those of forms that tlacheck doesn't support
 abbrev pub reserved_words : List (List ℕ)
 reserved_words =
     codes "ASSUME" ∷ codes "ASSUMPTION" ∷ codes "AXIOM" ∷ codes "BOOLEAN" ∷ codes "CASE" ∷ codes "CHOOSE" ∷

@@ -1,6 +1,6 @@
 -- What a tree writes to a hasher: its kind, unless it is a number, and then its contents. A set and a function write
--- one word, the hash of their parts. For a function these are the arguments and their values, pair by pair, without
--- each argument that is the number after the argument before.
+-- one word, the hash of their parts. The parts of a function are its arguments and values, pair by pair; an argument
+-- that is the successor of the one before is skipped.
 use Rattle.std.specs.Prelude.{ℕ, ◌++◌, [], fold, Bool, false, pos, ◌+ℤ◌, if◌then◌else◌}
 use Rattle.std.specs.Ordering.{int_eq}
 use Rattle.std.specs.Hash as fed
@@ -8,7 +8,7 @@ use Rattle.std.specs.Hash.{HashWrites}
 use Rattle.std.specs.Hash.FoldHasher as folding
 use Rattle.tla_value.specs.Tree.{Tree, Trees, Pairs, truth, int, text, model, set, fun, no_trees, more_trees, no_pairs, more_pairs}
 
--- the word that a hasher makes of some writes
+-- the word that a hasher returns after some writes
 unfoldable pub word_of : HashWrites → ℕ
 word_of ws = folding.finish (fold folding.write folding.initial ws)
 

@@ -1,4 +1,4 @@
-// Sets given by all ways to choose.
+// Sets of all choices: subsets, functions, tuples, records.
 ghost use Rattle.std.specs.Prelude.{◌≡◌, ◌==◌, ◌^◌, ◌<◌, ◌≤◌, false, max, length, map, zip, slice_index_or, IsTrue, IfOk, IfErr, MatchOption};
 ghost use Rattle.std.specs.List.{AllByRecursion};
 ghost use Rattle.std.specs.List.Sorted.{IsStrictlySortedBy};
@@ -21,10 +21,10 @@ use crate::text::Text;
 use crate::value::{SetValue, Value};
 use std::alloc::Global;
 
-// The most members whose subsets are at most a million.
+// A set of more members has over a million subsets.
 const MAX_POWER: usize = 19;
 
-// Whether there is no way to choose a member of each set.
+// Whether one of the sets is empty, so that there is no choice.
 fn has_empty(sets: &[&SetValue]) -> bool
     ensures empty { result ≡ (ways (map (λ s. s.now) sets.now) == 0) }
     ensures rising { AllByRecursion (IsStrictlySortedBy tree_cmp) (map (λ s. s.now) sets.now) }
@@ -36,7 +36,7 @@ fn has_empty(sets: &[&SetValue]) -> bool
     found
 }
 
-// How many ways there are to choose a member of each set, where there are at most a million.
+// The number of ways to choose a member of each set; none if there are over a million.
 fn count_of(sets: &[&SetValue]) -> Option<usize>
     ensures count { MatchOption result (MAX_ELEMENTS < ways (map (λ s. s.now) sets.now)) (λ n.
         (n ≡ ways (map (λ s. s.now) sets.now)) × (n ≤ MAX_ELEMENTS)) }
@@ -55,7 +55,7 @@ fn count_of(sets: &[&SetValue]) -> Option<usize>
     Some(count)
 }
 
-// An argument, and the member of a set at a place.
+// An argument, and the member of a set at an index.
 fn pick(
     alloc: Global,
     argument: &Value,
@@ -74,7 +74,7 @@ fn pick(
     Ok((argument.copy(alloc)?, member.copy(alloc)?))
 }
 
-// The choice with this number: at each argument a member of the set beside it.
+// The choice with this number: for each argument a member of its set.
 fn choice_at(
     alloc: Global,
     arguments: &[Value],
@@ -105,7 +105,7 @@ fn choice_at(
     Ok(pairs)
 }
 
-// All functions with these arguments and, at each, a member of the set beside it, in rising order.
+// All functions that map each argument to a member of its set, in rising order.
 fn functions(
     alloc: Global,
     arguments: &[Value],
@@ -160,7 +160,7 @@ fn repeated<'a>(
     Ok(parts)
 }
 
-// The set of all functions with these arguments and, at each, a member of the set beside it.
+// The set of all functions that map each argument to a member of its set.
 fn set_of_functions(
     alloc: Global,
     arguments: &[Value],
@@ -179,7 +179,7 @@ fn set_of_functions(
     set_from_rising(alloc, functions(alloc, arguments, sets, count)?)
 }
 
-// The tuples with one part of each set, in their order.
+// The tuples with one item of each set, in the order of the sets.
 fn set_of_tuples(alloc: Global, sets: &[&SetValue]) -> Result<SetValue, ValueError>
     ensures { MakesSetOfFunctions (set_of (tuples_of (map (λ s. s.now) sets.now))) result }
 {
@@ -198,7 +198,7 @@ fn set_of_tuples(alloc: Global, sets: &[&SetValue]) -> Result<SetValue, ValueErr
     }
 }
 
-// The members of a list whose bits are set in a number, the first member's bit on top.
+// The members of a list whose bits are set in a number; the first member has the highest bit.
 fn sublist_at(
     alloc: Global,
     items: &[Value],
@@ -266,7 +266,6 @@ fn sorted_fields(
     Ok(pairs)
 }
 
-// The sets of some fields.
 fn field_sets<'a>(
     alloc: Global,
     fields: &[(Value, &'a SetValue)],
@@ -281,7 +280,6 @@ fn field_sets<'a>(
     Ok(sets)
 }
 
-// The names of some fields.
 fn field_names(alloc: Global, fields: Vec<(Value, &SetValue)>) -> Result<Vec<Value>, ValueError>
     ensures ok { IfOk result (λ v.
         map tree_of v.items ≡ map (λ f. tree_of f.0) fields.entry.items) }
@@ -294,7 +292,7 @@ fn field_names(alloc: Global, fields: Vec<(Value, &SetValue)>) -> Result<Vec<Val
     Ok(names)
 }
 
-// The records with these names, in order, and the sets beside them.
+// The set of records with these field names, in rising order, and these sets of values.
 fn set_of_records(
     alloc: Global,
     names: &[Value],
@@ -351,8 +349,8 @@ impl SetValue {
         }
     }
 
-    /// The tuples with one part of each set, in their order: `S \X T`. Where a tuple would have over a million parts,
-    /// there are too many as well.
+    /// The tuples with one item of each set, in the order of the sets: `S \X T`. A tuple of over a million items is
+    /// `TooMany` as well.
     pub fn product(alloc: Global, sets: &[SetValue]) -> Result<SetValue, ValueError>
         ensures { MakesSetOfFunctions (set_of (tuples_of sets.now)) result }
     {
@@ -360,8 +358,8 @@ impl SetValue {
         set_of_tuples(alloc, parts.as_slice())
     }
 
-    /// The records with these fields, each with a member of the set beside its name: `[a : S, ..]`. Where a record
-    /// would have over a million fields, there are too many as well.
+    /// The records with these fields, each value a member of its field's set: `[a : S, ..]`. A record of over a million
+    /// fields is `TooMany` as well.
     pub fn record_set(alloc: Global, fields: &[(Text, SetValue)]) -> Result<SetValue, ValueError>
         requires { IsTrue (is_each_once (keys_of fields.now)) }
         ensures { MakesSetOfFunctions (set_of (records_of fields.now)) result }

@@ -29,7 +29,7 @@ impl Value {
     }
 }
 
-// Copies of some values, in a list of their own.
+// Copies of some values, in a new list.
 pub(crate) fn copy_items(alloc: Global, items: &[Value]) -> Result<Vec<Value>, ValueError>
     ensures ok { IfOk result (λ v. v.items ≡ items.now) }
     ensures err { IfErr result (λ e. e ≡ Memory) }
@@ -41,7 +41,7 @@ pub(crate) fn copy_items(alloc: Global, items: &[Value]) -> Result<Vec<Value>, V
     Ok(copies)
 }
 
-// A copy of an argument, beside a copy of the value at it.
+// A copy of an argument, with a copy of its value.
 pub(crate) fn copy_pair(
     alloc: Global,
     argument: &Value,
@@ -55,7 +55,7 @@ pub(crate) fn copy_pair(
     Ok((argument, value))
 }
 
-// Copies of some arguments, each beside a copy of its value.
+// Copies of some arguments, each with a copy of its value.
 fn copy_zipped(
     alloc: Global,
     arguments: &[Value],
@@ -73,7 +73,7 @@ fn copy_zipped(
     Ok(pairs)
 }
 
-// The pairs of a function, in a list of their own.
+// The pairs of a function, in a new list.
 pub(crate) fn copy_pairs(alloc: Global, of: &FunValue) -> Result<Vec<(Value, Value)>, ValueError>
     ensures ok { IfOk result (λ v. map pair_of v.items ≡ of.now) }
     ensures rising { IsStrictlySortedBy tree_cmp (arguments of.now) }

@@ -45,7 +45,7 @@ fn first_number(arguments: &[Value]) -> Option<i64>
     Some(first)
 }
 
-// The domain of a sequence of so many values.
+// The domain of a sequence of `count` values.
 pub(crate) fn first_numbers(alloc: Global, count: usize) -> Domain
     requires { count ≤ MAX_ELEMENTS }
     ensures numbers { domain_trees count result ≡ counted_up count (pos 1) }
@@ -58,7 +58,7 @@ pub(crate) fn first_numbers(alloc: Global, count: usize) -> Domain
     }
 }
 
-// The position of a value among `count` consecutive numbers, of which `first` is the first.
+// The index of a value among `count` consecutive numbers from `first` on.
 fn number_place(first: i64, count: usize, value: &Value) -> Option<usize>
     ensures some { IfSome result (λ i.
         slice_get (counted_up count first) i ≡ Some (tree_of value.now)) }
@@ -79,7 +79,7 @@ fn number_place(first: i64, count: usize, value: &Value) -> Option<usize>
     }
 }
 
-// How deep the deepest of some arguments and of the values at them is nested.
+// The greatest nesting among some arguments and their values.
 pub(crate) fn deepest_of_pairs(domain: &Domain, values: &[Value]) -> u64
     requires { FitsDomain (length values.now) domain.now }
     ensures { result ≡ deepest_pair (pairs (entry_pairs domain.now values.now)) }
@@ -91,9 +91,9 @@ pub(crate) fn deepest_of_pairs(domain: &Domain, values: &[Value]) -> u64
     }
 }
 
-// The same after one value replaced another. `before` is how deep the deepest part was nested before; `replaced` and
-// `added` say how deep the old value and the new one are nested. All parts are visited only if the old value may have
-// been the deepest and the new one is less deep.
+// The same after one value replaced another. `before` is the greatest nesting before; `replaced` and `added` are those
+// of the old and the new value. Visits all parts only if the old value may have been the deepest and the new one is
+// less deep.
 pub(crate) fn deepest_after(
     domain: &Domain,
     values: &[Value],
@@ -168,7 +168,7 @@ impl Domain {
         }
     }
 
-    // The position of a value among the `count` arguments.
+    // The index of a value among the `count` arguments.
     pub(crate) fn place(&self, count: usize, value: &Value) -> Option<usize>
         ensures some { IfSome result (λ i.
             slice_get (domain_trees count self.now) i ≡ Some (tree_of value.now)) }

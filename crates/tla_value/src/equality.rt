@@ -1,4 +1,4 @@
-// Equality of values. Sets and functions with different hashes are unequal, so their parts needn't be compared.
+// Equality of values. Sets and functions with different hashes are unequal; their parts needn't be compared.
 ghost use Rattle.std.specs.Prelude.{◌≡◌, ◌↔◌, IsTrue, map};
 ghost use Rattle.tla_value.specs.TreeOf.{tree_of};
 ghost use Rattle.tla_value.specs.ValueOrder.{value_eq};

@@ -1,4 +1,4 @@
-// Functions: what is made of them, and of pairs.
+// Functions: how they are built, from pairs and from other functions.
 ghost use Rattle.std.specs.Prelude.{◌≡◌, ◌++◌, false, length, map, zip, slice_get, option_map, IfSome, IfNone, IfOk, IfErr, OnOk};
 ghost use Rattle.tla_value.specs.Choices.{numbered};
 ghost use Rattle.std.specs.List.{dedup};
@@ -47,7 +47,7 @@ pub(crate) fn drop_repeats<T: Drop>(pairs: &mut Vec<(Value, T)>)
     pairs.dedup_by(|later, earlier| later.0 == earlier.0);
 }
 
-// How deep the deepest part of some pairs is nested.
+// The greatest nesting among the parts of some pairs.
 pub(crate) fn deepest_part_of(pairs: &[(Value, Value)]) -> u64
     ensures nesting { result ≡ deepest_pair (pairs_of (map pair_of pairs.now)) }
     ensures values { ArePairs (pairs_of (map pair_of pairs.now)) }
@@ -59,7 +59,7 @@ pub(crate) fn deepest_part_of(pairs: &[(Value, Value)]) -> u64
     deepest
 }
 
-// Arguments and values of some pairs, each in a list.
+// The arguments of some pairs in one list, and the values in another.
 fn split(alloc: Global, pairs: Vec<(Value, Value)>) -> Result<(Vec<Value>, Vec<Value>), ValueError>
     ensures arguments { IfOk result (λ r.
         map tree_of r.0.items ≡ arguments (map pair_of pairs.items)) }
@@ -76,7 +76,7 @@ fn split(alloc: Global, pairs: Vec<(Value, Value)>) -> Result<(Vec<Value>, Vec<V
     Ok((arguments, values))
 }
 
-// The function of pairs that rise by argument. `nesting` is how deep it is nested.
+// The function of pairs that rise by argument, with this nesting.
 fn from_parts(
     alloc: Global,
     pairs: Vec<(Value, Value)>,
@@ -140,7 +140,7 @@ fn is_sequence(arguments: Arguments<'_>, count: usize) -> bool
     }
 }
 
-// The position of a string among some values, at its first place.
+// The index of the first value that is this string.
 fn text_place(values: &[Value], name: &Text) -> Option<usize>
     ensures some { IfSome result (λ i.
         slice_get (map tree_of values.now) i ≡ Some (text name.now)) }
@@ -158,7 +158,7 @@ fn text_place(values: &[Value], name: &Text) -> Option<usize>
 }
 
 impl FunValue {
-    // Another value at one argument, if it is there: in place where nobody else holds the values.
+    // Replaces the value at an argument, if it is in the domain: in place if the values have no other owner.
     fn put(&mut self, argument: &Value, value: Value) -> Result<(), ValueError>
         ensures ok { OnOk result
             (self.new ≡ except_of (tree_of argument.now) (tree_of value) self.old) }
@@ -194,7 +194,7 @@ impl FunValue {
         self.copy(alloc)?.with_value(argument, value)
     }
 
-    /// The pairs of both functions: `f @@ g`. Of two with one argument that of this function counts.
+    /// The pairs of both functions: `f @@ g`. At a common argument the value of this function counts.
     pub fn override_with(&self, alloc: Global, other: &FunValue) -> Result<FunValue, ValueError>
         ensures { MakesFun (fun_of (self.now ++ other.now)) result }
     {
@@ -204,7 +204,7 @@ impl FunValue {
         fun_from_rising(alloc, pairs)
     }
 
-    /// The length, where the arguments are 1 to that length.
+    /// The length, if this is a sequence: the arguments are 1 to the length.
     pub fn as_sequence(&self) -> Option<u64>
         ensures { result ≡ option_map length (items_of self.now) }
     {
@@ -215,7 +215,7 @@ impl FunValue {
         }
     }
 
-    /// The function of these pairs. Of two with one argument the first counts.
+    /// The function of these pairs. Of two pairs with the same argument the first counts.
     pub fn from_pairs(alloc: Global, pairs: Vec<(Value, Value)>) -> Result<FunValue, ValueError>
         ensures { MakesFun (fun_of (map pair_of pairs.items)) result }
     {

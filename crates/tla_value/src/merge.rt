@@ -37,7 +37,7 @@ fn reach(items: &[Value], from: usize, value: &Value) -> (bool, usize)
     (false, at)
 }
 
-// Adds a copy of a value at the end, or nothing.
+// Adds a copy of a value at the end, if it is wanted.
 pub(crate) fn keep_copy(
     alloc: Global,
     kept: &mut Vec<Value>,
@@ -56,7 +56,7 @@ pub(crate) fn keep_copy(
     Ok(())
 }
 
-// The values that are in the other list, too, or those that aren't.
+// The values that are in the other list, or those that aren't.
 pub(crate) fn chosen(
     alloc: Global,
     items: &[Value],

@@ -13,7 +13,7 @@ use crate::value::Value;
 use std::alloc::Global;
 use std::cmp::Ordering;
 
-// The pairs of both lists in the order of their arguments. Of two with one argument the left one counts.
+// The pairs of both lists in the order of their arguments. At a common argument the left pair counts.
 pub(crate) fn merged_pairs(
     alloc: Global,
     left: &[(Value, Value)],

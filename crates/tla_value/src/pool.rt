@@ -1,4 +1,4 @@
-// A pool of the sets and functions that were made lately. A new one that equals one of the pool becomes a copy of it, which
+// A pool of recent sets and functions. A new one that equals one of the pool is replaced by a copy of that one, which
 // shares its parts, so that states take less memory.
 ghost use Rattle.std.specs.Prelude.{◌≡◌, ◌<◌, IfOk, IfErr, IfSome, OnOk, vec_len};
 ghost use Rattle.tla_value.specs.declared.error.ValueError.TheVariants.{Memory};
@@ -10,20 +10,20 @@ use crate::value::Value;
 use std::alloc::Global;
 use std::mem;
 
-// How many values a pool holds at most.
+// The most slots of a pool.
 const MAX_ROOM: usize = 16_384;
 
-// How many values a pool has room for once it holds any.
+// The fewest slots of a pool that holds a value.
 const MIN_ROOM: usize = 64;
 
-// How deep in a value its parts are shared.
+// Parts are shared down to this depth of a value.
 const LEVELS: u64 = 8;
 
-/// Sets and functions that were made lately, each at an index that its hash determines. FALSE fills the other places.
+/// Recent sets and functions, each at the index that its hash determines. An empty slot holds FALSE.
 #[derive(Drop)]
 pub struct Pool {
     values: Vec<Value>,
-    // How many were put in since the pool grew.
+    // How many values were put in since the pool grew.
     put: usize,
 }
 
@@ -57,7 +57,7 @@ impl Pool {
         }
     }
 
-    // The index of a value.
+    // The slot of a value.
     fn index_of(&self, value: &Value) -> usize
         requires { 0 < vec_len self.now.values }
         ensures { result < vec_len self.now.values }
@@ -78,7 +78,7 @@ impl Pool {
         Ok(Some(kept.copy(alloc)?))
     }
 
-    // Puts a value at its index, in place of the one that was there. A pool without room stays as it is.
+    // Puts a value into its slot, and drops the one that was there. A pool without slots doesn't change.
     fn put(&mut self, value: Value)
         ensures { vec_len self.new.values ≡ vec_len self.old.values }
     {
@@ -90,7 +90,7 @@ impl Pool {
         self.put = self.put.saturating_add(1);
     }
 
-    // Makes the pool larger if it is likely full.
+    // Grows the pool if it is likely full.
     fn make_room(&mut self, alloc: Global) -> Result<(), ValueError>
         ensures some { OnOk result (0 < vec_len self.new.values) }
         ensures err { IfErr result (λ e. e ≡ Memory) }
@@ -108,8 +108,8 @@ impl Pool {
         Ok(())
     }
 
-    // The value itself, but if it equals one of the pool, a copy of that. Only a set or function that nobody else holds
-    // is looked for: another one is shared already.
+    // Replaces the value by a copy of an equal one of the pool, if there is one. Only a set or function without another
+    // owner is looked up: any other is shared already.
     #[cycle(share)]
     fn share(&mut self, alloc: Global, value: &mut Value, levels: u64) -> Result<(), ValueError>
         ensures same { value.new ≡ value.old }
@@ -128,7 +128,7 @@ impl Pool {
         Ok(())
     }
 
-    // The same of some values.
+    // The same for some values.
     #[cycle(share)]
     pub(crate) fn share_all(
         &mut self,
@@ -145,8 +145,8 @@ impl Pool {
         Ok(())
     }
 
-    /// The state itself. Where a set or function in it equals one of the pool, it becomes a copy of that one; the others
-    /// are put into the pool.
+    /// The same state. A set or function in it that equals one of the pool becomes a copy of that one; the others are
+    /// put into the pool. Fails only if memory ran out.
     pub fn share_state(&mut self, alloc: Global, state: State) -> Result<State, ValueError>
         ensures ok { IfOk result (λ s. s ≡ state) }
         ensures err { IfErr result (λ e. e ≡ Memory) }
@@ -157,7 +157,7 @@ impl Pool {
     }
 }
 
-// Whether a value is a set or function whose parts nobody else holds.
+// Whether a value is a set or function whose parts have no other owner.
 fn is_sole(value: &Value) -> bool {
     match value {
         Value::Set(set) => set.is_sole(),

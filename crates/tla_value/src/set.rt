@@ -18,10 +18,10 @@ use std::alloc::Global;
 /// The most members of a set, and pairs of a function.
 pub const MAX_ELEMENTS: usize = 1_000_000;
 
-/// How deep a value is nested at most.
+/// The deepest nesting of a value.
 pub const MAX_NESTING: u64 = 64;
 
-// How deep the deepest of some values is nested.
+// The greatest nesting among some values.
 pub(crate) fn deepest_of(values: &[Value]) -> u64
     ensures nesting { result ≡ deepest (trees (map tree_of values.now)) }
     ensures values { AreValues (trees (map tree_of values.now)) }
@@ -90,7 +90,7 @@ impl SetValue {
         set_from_rising(alloc, sort_values(values))
     }
 
-    /// The member at a place of the rising list.
+    /// The member at an index of the rising list.
     pub fn get(&self, index: usize) -> Option<&Value>
         ensures { option_map (λ v. tree_of v.now) result ≡ slice_get self.now index }
     {
@@ -117,7 +117,7 @@ impl SetValue {
         self.items().binary_search(value)
     }
 
-    /// The values that are members of one of the two sets.
+    /// The values that are members of at least one of the two sets.
     pub fn union(&self, alloc: Global, other: &SetValue) -> Result<SetValue, ValueError>
         ensures { MakesSet (set_of (self.now ++ other.now)) result }
     {
@@ -125,7 +125,7 @@ impl SetValue {
         set_from_rising(alloc, items)
     }
 
-    /// The members that are members of the other set too.
+    /// The members that the other set has too.
     pub fn intersect(&self, alloc: Global, other: &SetValue) -> Result<SetValue, ValueError>
         ensures { MakesSet (filter (λ t. is_member t other.now) self.now) result }
     {
@@ -133,7 +133,7 @@ impl SetValue {
         set_from_rising(alloc, items)
     }
 
-    /// The members that are no members of the other set.
+    /// The members that the other set doesn't have.
     pub fn minus(&self, alloc: Global, other: &SetValue) -> Result<SetValue, ValueError>
         ensures { MakesSet (filter (λ t. not (is_member t other.now)) self.now) result }
     {
@@ -162,7 +162,7 @@ impl SetValue {
         set_from_rising(alloc, count_up(alloc, low, steps + 1)?)
     }
 
-    /// Adds a value, and answers whether it is new.
+    /// Adds a value, and returns whether it is new.
     pub fn insert(&mut self, value: Value) -> Result<bool, ValueError>
         ensures new { IfOk result (λ added. added ≡ not (is_member (tree_of value) self.old)) }
         ensures ok { OnOk result (self.new ≡ set_of (tree_of value ∷ self.old)) }

@@ -18,7 +18,7 @@ use crate::value::{Arguments, FunValue, SetValue, Value};
 use counted_writer::{ShortWrite, put, put_number};
 use std::io::Write;
 
-/// A write failed or took no byte, so the text of a value was not written whole.
+/// A write failed or took no byte, so only a part of a value's text was written.
 #[derive(Clone, Copy, Debug, PartialEq, Eq)]
 pub struct TextFault {
     /// How many bytes were written; `u64::MAX` means that many or more.
@@ -28,7 +28,7 @@ pub struct TextFault {
 impl Value {
     /// Writes the text of the value.
     ///
-    /// The first write that fails, or that takes no byte, ends the call. Takes no memory.
+    /// The first write that fails, or that takes no byte, ends the call with an error. Allocates nothing.
     pub fn write_text<W: Write>(&self, out: &mut W) -> Result<(), TextFault>
         ensures ok { OnOk result
             (Appends (W.contents out.old) (W.contents out.new) (text_of (tree_of self.now))) }
@@ -42,8 +42,8 @@ impl Value {
         }
     }
 
-    /// Writes the text of the value as [`Value::write_text`] does, after `written` bytes, and
-    /// answers the count after it, which stays at `u64::MAX`.
+    /// Writes the text of the value as [`Value::write_text`] does, after `written` bytes, and returns the count after
+    /// it, which saturates at `u64::MAX`.
     pub fn put_text<W: Write>(&self, out: &mut W, written: u64) -> Result<u64, ShortWrite>
         ensures { Puts (W.contents out.old) (W.contents out.new) written
             (text_of (tree_of self.now)) result }
@@ -163,7 +163,7 @@ fn put_function<W: Write>(of: &FunValue, out: &mut W, written: u64) -> Result<u6
     }
 }
 
-// A function on consecutive numbers.
+// Writes a function on consecutive numbers.
 #[cycle(show)]
 fn put_numbers<W: Write>(
     first: i64,
@@ -186,7 +186,7 @@ fn put_numbers<W: Write>(
     }
 }
 
-// A function whose arguments are a list.
+// Writes a function whose arguments are a list.
 #[cycle(show)]
 fn put_listed<W: Write>(
     arguments: &[Value],
@@ -199,7 +199,7 @@ fn put_listed<W: Write>(
     ensures { Puts (W.contents out.old) (W.contents out.new) written
         (text_of (fun (pairs_of (map pair_of (zip arguments.now values.now))))) result }
 {
-    // No argument is a number and a string, so one of the two walks ends at the first argument.
+    // No argument is both a number and a string, so one of the two tests ends at the first argument.
     if are_from_one(arguments) {
         put_sequence(values, out, written)
     } else if are_names(arguments) {
@@ -287,7 +287,7 @@ fn put_pairs<W: Write>(
     put(out, written, b")")
 }
 
-// A function on consecutive numbers that is no sequence.
+// Writes a function on consecutive numbers that is no sequence.
 #[cycle(show)]
 fn put_numbered<W: Write>(
     first: i64,

@@ -13,7 +13,7 @@ use std::marker::Model;
 use std::str;
 use std::sync::Arc;
 
-// The most bytes of a short string.
+// The most bytes of a string that is stored inline.
 const MOST: usize = 14;
 
 // A short string: the first `len` of these bytes.
@@ -23,14 +23,14 @@ struct Short {
     len: u8,
 }
 
-// A short string lies in the value itself, so that threads which copy and compare it share no count.
+// A short string is stored inline, so threads that copy it don't contend for a reference count.
 #[derive(Debug, Drop)]
 enum Held {
     Short(Short),
     Long(Arc<String>),
 }
 
-/// A string, which contracts see as its UTF-8 bytes. Copies of a long one share its text.
+/// A string; in contracts, its UTF-8 bytes. Copies of a long one share its text.
 #[derive(Debug, Drop)]
 pub struct Text {
     alloc: Global,
@@ -95,7 +95,7 @@ impl Text {
         })
     }
 
-    /// The string itself where nobody else holds it, else a string of its own.
+    /// The string, which is copied only if it is short or has another owner.
     pub fn into_string(self) -> Result<String, ValueError>
         ensures ok { IfOk result (λ s. string_bytes s ≡ self) }
         ensures err { IfErr result (λ e. e ≡ Memory) }
@@ -113,7 +113,7 @@ impl Text {
         }
     }
 
-    /// An equal string. Where it is long, it shares this one's text.
+    /// An equal string. A long one shares this one's text.
     pub fn copy(&self, _alloc: Global) -> Result<Text, ValueError>
         ensures ok { IfOk result (λ t. t ≡ self.now) }
         ensures err { IfErr result (λ e. e ≡ Memory) }

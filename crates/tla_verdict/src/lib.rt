@@ -1,4 +1,4 @@
-//! What a search of a model answers.
+//! The answer of a search of a model.
 #![tactic(auto)]
 
 mod answer;

@@ -1,4 +1,4 @@
--- When a code has the expression of a core, and the expressions of lists of both.
+-- When a code denotes the expression of a core, and the expressions of lists of both.
 use Rattle.std.specs.Prelude.{◌≡◌, ℕ, List, [], ◌∷◌, Option, Some, None}
 use Rattle.std.specs.List.{AllZip}
 use Rattle.std.proofs.Common.{Vec, Bor, Global}
@@ -45,7 +45,7 @@ abbrev pub updates_of_list : List (Vec Core Global × Core) → Updates
 updates_of_list [] = no_updates
 updates_of_list (u ∷ us) = more_updates (exprs_of_cores u.0.items) (expr_of u.1) (updates_of_list us)
 
--- a code has the expression of a core in every scope
+-- a code denotes the expression of a core in every scope
 abbrev pub StandsFor : Core → Code → Type 0
 StandsFor core c = (scope : Scope) → expr_in scope c ≡ expr_of core
 

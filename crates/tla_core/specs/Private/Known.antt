@@ -1,4 +1,4 @@
--- Parts whose values are known. Private contracts alone cite this.
+-- Parts whose values are known. Only private contracts cite this file.
 use Rattle.std.specs.Prelude.{◌≡◌, ℕ, Bool, true, false, List, [], ◌∷◌}
 use Rattle.tla_value.specs.Tree.{text}
 use Rattle.tla_value.specs.TreeOf.{tree_of}
@@ -12,7 +12,7 @@ use Rattle.tla_core.specs.declared.expression.Core.{Core}
 use Rattle.tla_core.specs.declared.expression.Core.TheVariants.{Constant, Literal}
 use Rattle.tla_core.specs.declared.fixed.Fixed.{Fixed}
 
--- a constant, or an expression that is kept with its value
+-- a constant, or a literal
 abbrev pub is_known : Core → Bool
 is_known (Constant at v) = true
 is_known (Literal l) = true
@@ -31,14 +31,14 @@ HasValue c v = IsKnown c × IsAlways (means (expr_of c)) (tree_of v)
 abbrev pub HasField : List ℕ × Core → Value × Value → Type 0
 HasField f p = (tree_of p.0 ≡ text f.0) × HasValue f.1 p.1
 
--- the expression of a field in memory
+-- the name and the expression of a field
 abbrev pub named_core : List ℕ × Core → List ℕ × Expr
 named_core f = (f.0, expr_of f.1)
 
 abbrev pub named_fixed : List ℕ × Fixed → List ℕ × Expr
 named_fixed f = (f.0, fixed_of f.1)
 
--- lists of expressions and of fields, as nodes hold them
+-- lists of expressions and of fields, as the data types of nodes
 abbrev pub exprs : List Expr → Exprs
 exprs [] = no_exprs
 exprs (e ∷ es) = more_exprs e (exprs es)

@@ -102,7 +102,8 @@ parts_at bs s k = map (λ (b : Bor syntax.Expr). Part b s k) bs
 abbrev pub ArePushed : List Visit → List syntax.Expr → ℕ → Primes → List Visit → Type 0
 ArePushed old ts s k new = (bs : List (Bor syntax.Expr)) × (pointed bs ≡ ts) × (new ≡ old ++ parts_at bs s k)
 
--- A walk over the parts of a whole. What is left ends with what is next; what is looked at just now is next to it. The whole is met where all of that is; and where it is a nested tuple of variables, so is all of that and was met.
+-- A walk over the parts of a whole. What is left ends with what is next; what is looked at just now is next to it.
+-- The whole is met where all of that is; and where it is a nested tuple of variables, so is all of that and was met.
 pub record IsWalkBy (whole : Option Expr) (es : List Entry) (left : List Visit) (gone : List Gone) (met : List ℕ) (next : (ℕ → Bool) → Type 0) : Type 0 where
   pub linked : AreLinked es
   pub inside : EachIs (IsInside es) left

@@ -1,4 +1,4 @@
--- What a parse of the command gives its five arguments that have a value. Only private functions cite this page.
+-- After a parse of the command, its five arguments with a value have one. Only private contracts cite this file.
 use Rattle.std.specs.Prelude.{◌≡◌, ◌≤◌, ◌⊎◌, ℕ, None, Some, true, false, codes, is_some, ⊤}
 use Rattle.clap.specs.Words.{IsParsedFrom, IsPlainArg, Text, first_value, found_of}
 use Rattle.clap.specs.Facts.{WantsDefault, least_values}
@@ -16,7 +16,7 @@ use Rattle.tla_line.specs.declared.number.NumberOption.TheVariants.{Workers, Cut
 abbrev pub HasValue : ArgMatches → Text → Type 0
 HasValue m name = is_some (first_value (found_of m) name) ≡ true
 
--- the matches have a value of each argument but the flags
+-- the matches have a value of each of the five arguments
 pub record HasEach (m : ArgMatches) : Type 0 where
   pub module_file : HasValue m (codes "MODULE")
   pub config_file : HasValue m (codes "CONFIG")
@@ -24,11 +24,11 @@ pub record HasEach (m : ArgMatches) : Type 0 where
   pub cut : HasValue m (codes "cut")
   pub limit : HasValue m (codes "max-states")
 
--- each parse of the command that succeeds has a value of each of them
+-- each successful parse of the command has a value of each of them
 abbrev pub GivesEach : Command → Type 0
 GivesEach c = (m : ArgMatches) → IsParsedFrom c m → HasEach m
 
--- the argument takes one value in each use, and is required or has a value where it isn't used
+-- the argument takes one value in each use, and is required or has a default
 pub record AlwaysHasValue (a : Arg) : Type 0 where
   pub used : (a.required ≡ true) ⊎ WantsDefault a
   pub action : a.action ≡ Some Set
@@ -41,16 +41,16 @@ pub record IsArgument (id : Text) (a : Arg) : Type 0 where
   pub plain : IsPlainArg a
   pub local : a.global ≡ false
 
--- the text writes no number
+-- the text is no number
 abbrev pub WritesNoNumber : Text → Type 0
 WritesNoNumber text = (n : ℕ) → Writes text n → ⊥
 
--- the fault is one that `clap` has, and no number
+-- the fault is one of `clap`, not a bad number
 abbrev pub IsOfClap : LineFault → Type 0
 IsOfClap Number = ⊥
 IsOfClap _ = ⊤
 
--- the text of an option, of three
+-- the text of an option, among three
 abbrev pub text_for : NumberOption → Text → Text → Text → Text
 text_for Workers workers cut limit = workers
 text_for Cut workers cut limit = cut

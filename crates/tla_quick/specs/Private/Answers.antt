@@ -1,4 +1,4 @@
--- What a call answers that may give up: where it answers, the value that the definition gives. (This project's own choice.)
+-- The result of a call that may give up: if it has one, it is that of the definition. (This project's own choice.)
 use Rattle.std.specs.Prelude.{◌≡◌, Result, Ok, Err}
 use Rattle.tla_core.specs.Fault.{Outcome, ◌>>=◌}
 
@@ -6,7 +6,7 @@ abbrev pub Answers : {X A E : Type 0} → (X → A) → Result X E → Outcome A
 Answers view (Ok x) o = o ≡ Ok (view x)
 Answers view (Err stop) o = Unit {0}
 
--- whether there is an answer or a fault, and nothing more
+-- an outcome without its value
 abbrev pub nothing_of : {A : Type 0} → Outcome A → Outcome (Unit {0})
 nothing_of o = do
   x ← o

@@ -1,4 +1,4 @@
--- An environment: the values of the bound names and of the variables, and the definitions around an expression.
+-- An environment: the values of the bound names and of the variables, and the definitions in scope.
 use Rattle.std.specs.Prelude.{◌++◌, Bool, List, option_map}
 use Rattle.tla_value.specs.Tree.{Tree}
 use Rattle.tla_core.specs.Fault.{Outcome, ◌>>=◌}
@@ -22,7 +22,7 @@ present_in env = option_map (λ s. s.now) env.now
 abbrev pub next_in : Environment → Next
 next_in env = env.next.now
 
--- the expression of a code, and its value and members, also with more bound values
+-- the expression that a code denotes, and its value and members, also with more bound values
 abbrev pub code_in : Environment → Code → Expr
 code_in env c = expr_in (scope_in env) c
 

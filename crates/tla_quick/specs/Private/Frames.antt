@@ -1,4 +1,4 @@
--- What the code keeps of what is around an expression: the values of the bound names, and the definitions.
+-- The frames of an environment: the values of the bound names, and the definitions.
 use Rattle.std.specs.Prelude.{◌≡◌, ℕ, [], ◌∷◌, ◌++◌, length, map, Option, Some, None, Ok, slice_get}
 use Rattle.std.specs.Coded.{Coded-set}
 use Rattle.std.proofs.Props.{props}
@@ -32,19 +32,19 @@ scope_of (One' _ outer _ _) = scope_of outer
 scope_of (Many' _ outer _ _) = scope_of outer
 scope_of (Defined' _ outer _ names d _) = scope_of outer ++ (names, expr_in (scope_of outer) d.now) ∷ []
 
--- the value of a definition, where it is known
+-- if the value of a definition is known, it is that of the outcome
 abbrev pub IsKnown : Option (Bor Value) → Outcome Tree → Type 0
 IsKnown None o = Unit {0}
 IsKnown (Some v) o = o ≡ Ok (tree_of v.now)
 
--- the numbers count what is around each frame, and each value that is known is the definition's, with the names around it
+-- the numbers in each frame count the outer names and definitions; each known value is that of its definition
 abbrev pub Knows : Frame → Present → Next → Type 0
 Knows (Outer _) s t = Unit {0}
 Knows (One' _ outer names _) s t = (names ≡ length (bound_of outer)) × Knows outer s t
 Knows (Many' _ outer names _) s t = (names ≡ length (bound_of outer)) × Knows outer s t
 Knows (Defined' _ outer number names d v) s t = (number ≡ length (scope_of outer)) × (names ≡ length (bound_of outer)) × IsKnown v (val (expr_in (scope_of outer) d.now) (bound_of outer) s t) × Knows outer s t
 
--- there is one proof of it at most
+-- it has at most one proof
 Fault-set : IsSet Fault
 Fault-set = Coded-set (fault.the_row).coded
 
@@ -61,7 +61,7 @@ Knows-prop (One' _ outer names _) s t = hlevel (props, Knows-prop outer s t)
 Knows-prop (Many' _ outer names _) s t = hlevel (props, Knows-prop outer s t)
 Knows-prop (Defined' _ outer number names d v) s t = hlevel (props, IsKnown-prop v (val (expr_in (scope_of outer) d.now) (bound_of outer) s t), Knows-prop outer s t)
 
--- the definition with this number is around the expression, with this many names outside it, and has this value
+-- the definition with this number is in scope, with `names` names bound outside it, and has this value
 pub record IsDefinition (frame : Frame) (s : Present) (t : Next) (number names : ℕ) (v : Tree) : Type 0 where
   pub expr : Expr
   pub outer : Bound

@@ -1,4 +1,4 @@
--- A group as one expression, and what its value says.
+-- A group as one expression, and what its value means.
 use Rattle.std.specs.Prelude.{◌≡◌, List, Option, Some, None}
 use Rattle.tla_value.specs.Tree.{Tree, Trees, set, fun, pairs}
 use Rattle.tla_value.specs.Funs.{values_of}
@@ -12,7 +12,7 @@ abbrev pub group_expr : Place → List Core → List Core → Expr
 group_expr p conditions values =
     conditional p (conjunction p (exprs_of_cores conditions)) (tuple p (exprs_of_cores values)) (enumerated p no_exprs)
 
--- a set says that a condition is FALSE, a function has the values
+-- a set means that a condition is FALSE; a function contains the values
 abbrev pub IsAnswer : Tree → Option (List Tree) → Type 0
 IsAnswer t None = (ts : Trees) × (t ≡ set ts)
 IsAnswer t (Some vs) = (ps : List (Tree × Tree)) × (t ≡ fun (pairs ps)) × (values_of ps ≡ vs)

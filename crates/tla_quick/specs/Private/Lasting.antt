@@ -1,4 +1,4 @@
--- What has one value in all states.
+-- Codes and expressions with one value in all states.
 use Rattle.std.specs.Prelude.{◌≡◌, [], Ok}
 use Rattle.std.specs.Coded.{Coded-set}
 use Rattle.std.proofs.Props.{props}
@@ -23,6 +23,6 @@ Fault-set = Coded-set (fault.the_row).coded
 Tree-set : IsSet Tree
 Tree-set = Coded-set coded_tree
 
--- there is one proof of it at most
+-- it has at most one proof
 pub IsLasting-prop : (c : Code) (v : Value) → IsProp (IsLasting c v)
 IsLasting-prop c v = hlevel (props, Fault-set, Tree-set)

@@ -12,7 +12,7 @@ ghost use Rattle.tla_quick.specs.Private.Environment.{bound_in, present_in, next
 
 use crate::environment::Environment;
 use crate::evaluation::binding::truth_with;
-use crate::evaluation::lists::evaluated_each;
+use crate::evaluation::lists::{evaluated_each, taken_part};
 use crate::evaluation::logic::has_all;
 use crate::evaluation::{has, truth, value};
 use crate::made::{known_members, one_of_known, operator_has};
@@ -25,7 +25,7 @@ use tla_operators::sequences::sequence_items;
 use tla_operators::sets::{has_domain, if_set};
 use tla_value::Value;
 
-/// Whether `member` is in a set given by a form with one operand.
+/// Whether `member` is in the set of a form with one operand.
 #[cycle(evaluate)]
 pub(super) fn has_of_one<'m: 'a, 'a>(
     alloc: Global,
@@ -52,7 +52,7 @@ pub(super) fn has_of_one<'m: 'a, 'a>(
     }
 }
 
-/// Whether `member` is in a set given by a form with two operands.
+/// Whether `member` is in the set of a form with two operands.
 #[cycle(evaluate)]
 pub(super) fn has_of_two<'m: 'a, 'a>(
     alloc: Global,
@@ -128,7 +128,7 @@ pub(super) fn has_of_three<'m: 'a, 'a>(
     }
 }
 
-/// Whether `member` is in a set given by a form with a list of operands.
+/// Whether `member` is in the set of a form with a list of operands.
 #[cycle(evaluate)]
 pub(super) fn has_in_list<'m: 'a, 'a>(
     alloc: Global,
@@ -148,6 +148,10 @@ pub(super) fn has_in_list<'m: 'a, 'a>(
             one_of_known(alloc, place, values.as_slice(), member)
         }
         ListForm::Product => is_tuple_of(alloc, parts, member, env),
+        ListForm::Cases => {
+            let index = taken_part(alloc, parts, env)?;
+            has(alloc, &parts[index], member, env)
+        }
         _ => Err(Stop::GaveUp),
     }
 }
@@ -207,7 +211,7 @@ fn is_function_into<'m: 'a, 'a>(
     }
 }
 
-/// Whether a value is a tuple whose items are members of these codes, one by one.
+/// Whether a value is a tuple, each item a member of the code with the same index.
 #[cycle(evaluate)]
 fn is_tuple_of<'m: 'a, 'a>(
     alloc: Global,

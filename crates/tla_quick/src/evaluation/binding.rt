@@ -24,7 +24,7 @@ use tla_operators::evaluated::Evaluated;
 use tla_sets::elements::{Elements, count_of, element_at};
 use tla_value::Value;
 
-/// Whether a body is TRUE of each element of a set, or of some.
+/// `\A x \in S : p` and `\E x \in S : p`.
 #[cycle(evaluate)]
 pub(super) fn truth_of_binder<'m: 'a, 'a>(
     alloc: Global,
@@ -121,7 +121,7 @@ pub(super) fn value_with<'m: 'a, 'a>(
     owned(alloc, value(alloc, body, inner)?)
 }
 
-/// Whether the body is TRUE with element `number` as its bound name.
+/// Whether the body is TRUE for element `number`.
 #[cycle(evaluate)]
 fn holds_at<'e, 'm: 'a, 'a>(
     alloc: Global,
@@ -142,7 +142,7 @@ fn holds_at<'e, 'm: 'a, 'a>(
     truth_with(alloc, &*body, element.value(), env)
 }
 
-/// Whether a body is TRUE of each of these elements, up to the first of which it is not.
+/// Whether a body is TRUE for each of these elements. Stops at the first for which it is FALSE.
 #[cycle(evaluate)]
 fn each_holds<'e, 'm: 'a, 'a>(
     alloc: Global,
@@ -165,7 +165,7 @@ fn each_holds<'e, 'm: 'a, 'a>(
     Ok(true)
 }
 
-/// Whether a body is TRUE of some of these elements, up to the first of which it is.
+/// Whether a body is TRUE for one of these elements. Stops at the first for which it is.
 #[cycle(evaluate)]
 fn some_holds<'e, 'm: 'a, 'a>(
     alloc: Global,
@@ -188,7 +188,7 @@ fn some_holds<'e, 'm: 'a, 'a>(
     Ok(false)
 }
 
-/// The first of these elements of which a body is TRUE.
+/// The first of these elements for which a body is TRUE.
 #[cycle(evaluate)]
 fn first_passing<'e, 'm: 'a, 'a>(
     alloc: Global,
@@ -211,7 +211,7 @@ fn first_passing<'e, 'm: 'a, 'a>(
     Err(Stop::GaveUp)
 }
 
-/// Copies of those of these elements of which a body is TRUE.
+/// Copies of the elements for which a body is TRUE.
 #[cycle(evaluate)]
 fn passing<'e, 'm: 'a, 'a>(
     alloc: Global,

@@ -30,7 +30,7 @@ use tla_operators::gathered::Gathered;
 use tla_sets::domain::member_of;
 use tla_value::Value;
 
-/// The value of a form that binds a name for each of some sets.
+/// The value of a form that binds several names.
 #[cycle(evaluate)]
 pub(super) fn value_of_map<'m: 'a, 'a>(
     alloc: Global,
@@ -51,7 +51,7 @@ pub(super) fn value_of_map<'m: 'a, 'a>(
     }
 }
 
-/// The set of the values of a body for all choices from some sets.
+/// `{e : x \in S, ..}`: the set of the values of a body for all choices from some sets.
 #[cycle(evaluate)]
 fn image<'m: 'a, 'a>(
     alloc: Global,
@@ -71,7 +71,7 @@ fn image<'m: 'a, 'a>(
     gathered_set(alloc, place, values)
 }
 
-/// The function on all choices from some sets with the values of a body for them.
+/// `[x \in S, .. |-> e]`: the function that maps each choice from some sets to the value of a body.
 #[cycle(evaluate)]
 fn function<'m: 'a, 'a>(
     alloc: Global,
@@ -89,7 +89,7 @@ fn function<'m: 'a, 'a>(
     function_for(alloc, place, sets.as_slice(), body, env)
 }
 
-/// The function on all choices from some values that are sets, with the values of a body for them.
+/// The same, for the values of the sets.
 #[cycle(evaluate)]
 fn function_for<'s, 'm: 'a, 'a>(
     alloc: Global,
@@ -130,7 +130,7 @@ fn chosen<'l, 'm: 'a, 'a>(
     Err(Stop::GaveUp)
 }
 
-/// The different values of a body for all choices from some lists.
+/// The distinct values of a body for all choices from some lists.
 #[cycle(evaluate)]
 fn chosen_once<'l, 'm: 'a, 'a>(
     alloc: Global,
@@ -175,7 +175,7 @@ fn value_for<'l, 'm: 'a, 'a>(
     }
 }
 
-/// The value of a body for the member of a list at a place.
+/// The value of a body for the member of a list at an index.
 #[cycle(evaluate)]
 fn value_for_member<'l, 'm: 'a, 'a>(
     alloc: Global,
@@ -194,7 +194,7 @@ fn value_for_member<'l, 'm: 'a, 'a>(
     }
 }
 
-/// The value of a body for the choice with a number from several lists.
+/// The value of a body for choice `number` from several lists.
 #[cycle(evaluate)]
 fn value_for_choice<'l, 'm: 'a, 'a>(
     alloc: Global,

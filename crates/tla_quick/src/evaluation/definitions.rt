@@ -1,4 +1,4 @@
-//! Definitions, each evaluated once at most for the names around it.
+//! Let-bindings. A definition is evaluated at most once for given values of the names around it.
 ghost use Rattle.std.specs.Prelude.{◌≡◌, ◌++◌, ◌∷◌, []};
 ghost use Rattle.tla_value.specs.Tree.{truth};
 ghost use Rattle.tla_value.specs.TreeOf.{tree_of};
@@ -48,7 +48,7 @@ pub(super) fn value_of_let<'m: 'a, 'a>(
     Ok(Evaluated::Owned(value_under(alloc, &*definition, known, &*body, env)?))
 }
 
-/// The value of a body under a definition, the value of which may be known.
+/// The value of a body under a definition whose value may be known.
 #[cycle(evaluate)]
 fn value_under<'m: 'a, 'a>(
     alloc: Global,
@@ -105,7 +105,7 @@ pub(super) fn truth_of_let<'m: 'a, 'a>(
     truth_under(alloc, &*definition, known, &*body, env)
 }
 
-/// Whether a body is TRUE under a definition, the value of which may be known.
+/// Whether a body is TRUE under a definition whose value may be known.
 #[cycle(evaluate)]
 fn truth_under<'m: 'a, 'a>(
     alloc: Global,
@@ -163,7 +163,7 @@ pub(super) fn has_of_let<'m: 'a, 'a>(
     has_under(alloc, &*definition, known, &*body, &*member, env)
 }
 
-/// Whether a value is a member of a body under a definition, the value of which may be known.
+/// Whether a value is a member of a body under a definition whose value may be known.
 #[cycle(evaluate)]
 fn has_under<'m: 'a, 'a>(
     alloc: Global,

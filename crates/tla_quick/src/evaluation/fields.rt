@@ -70,7 +70,7 @@ fn named_values<'m: 'a, 'a>(
     Ok(pairs)
 }
 
-/// Whether a form with named operands has a member.
+/// Whether a value is a member of a form with named operands.
 #[cycle(evaluate)]
 pub(super) fn has_in_fields<'m: 'a, 'a>(
     alloc: Global,
@@ -90,7 +90,7 @@ pub(super) fn has_in_fields<'m: 'a, 'a>(
     }
 }
 
-/// Whether a value is a record with just these fields, each a member of the field's code.
+/// Whether a value is a record with exactly these fields, each value a member of the field's code.
 #[cycle(evaluate)]
 fn is_record_of<'m: 'a, 'a>(
     alloc: Global,
@@ -115,7 +115,7 @@ fn is_record_of<'m: 'a, 'a>(
     }
 }
 
-/// Whether the code of each field has the value of that field, up to the first that has it not.
+/// Whether the value of each field is a member of the field's code. Stops at the first that isn't.
 #[cycle(evaluate)]
 fn fields_have<'m: 'a, 'a>(
     alloc: Global,

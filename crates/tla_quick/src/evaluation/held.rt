@@ -1,4 +1,4 @@
-//! Values that are found, not made.
+//! Values that can be borrowed.
 ghost use Rattle.std.specs.Prelude.{◌≡◌, Ok, IfSome};
 ghost use Rattle.tla_value.specs.TreeOf.{tree_of};
 ghost use Rattle.tla_core.specs.ExprOf.{expr_of};
@@ -13,8 +13,8 @@ use tla_code::{Code, OneForm, TwoForm};
 use tla_core::Place;
 use tla_value::Value;
 
-/// Borrows the value of a bound name, a variable, a constant or a definition whose value is known, or of `f[e]` or `r.a`
-/// for such values. `None`: it has to be evaluated instead.
+/// Borrows the value of a bound name, a variable, a constant or a definition whose value is known, or of `f[e]` or
+/// `r.a` for such values. `None`: it has to be evaluated instead.
 #[cycle(held)]
 pub(crate) fn held<'m: 'a, 'a>(
     alloc: Global,

@@ -1,5 +1,6 @@
 //! Forms with a list of operands.
-ghost use Rattle.std.specs.Prelude.{map};
+ghost use Rattle.std.specs.Prelude.{◌≡◌, ◌<◌, length, map, slice_index_or, IfOk};
+ghost use Rattle.tla_value.specs.Tree.{Tree};
 ghost use Rattle.tla_value.specs.TreeOf.{tree_of};
 ghost use Rattle.tla_core.specs.declared.fault.Place.{Place as AnyPlace};
 ghost use Rattle.tla_core.specs.Expr.{cases};
@@ -10,7 +11,7 @@ ghost use Rattle.tla_code.specs.Forms.{list_expr, arms_in};
 ghost use Rattle.tla_code.specs.Private.Listed.{exprs_of_codes};
 ghost use Rattle.tla_operators.specs.Evaluated.{tree_of_evaluated};
 ghost use Rattle.tla_quick.specs.Private.Answers.{Answers};
-ghost use Rattle.tla_quick.specs.Private.Environment.{bound_in, present_in, next_in, scope_in, value_in};
+ghost use Rattle.tla_quick.specs.Private.Environment.{bound_in, code_in, has_in, present_in, next_in, scope_in, value_in};
 
 use crate::environment::Environment;
 use crate::evaluation::logic::truth_of_list;
@@ -49,32 +50,39 @@ pub(super) fn value_of_list<'m: 'a, 'a>(
             let sets = evaluated_each(alloc, parts, env)?;
             Ok(Evaluated::Owned(made_product(alloc, place, sets.as_slice())?))
         }
-        ListForm::Cases => value_of_cases(alloc, parts, env),
+        ListForm::Cases => {
+            let index = taken_part(alloc, parts, env)?;
+            value(alloc, &parts[index], env)
+        }
     }
 }
 
-/// The value of a CASE: of the first arm whose condition is TRUE, or else of OTHER.
+/// The number of the part that a CASE takes: the value of the first arm whose condition is TRUE, or else that of OTHER.
 #[cycle(evaluate)]
-fn value_of_cases<'m: 'a, 'a>(
+pub(super) fn taken_part<'m: 'a, 'a>(
     alloc: Global,
     parts: &'a [Code<'m>],
     env: Environment<'m, 'a>,
-) -> Result<Evaluated<'a>, Stop>
-    ensures { (p : AnyPlace)
-        → Answers tree_of_evaluated result
-        (value_in env.entry (cases p (arms_in (exprs_of_codes (scope_in env.entry) parts.now)))) }
+) -> Result<usize, Stop>
+    ensures within { IfOk result (λ i. i < length parts.now) }
+    ensures value { (p : AnyPlace) (d : Code)
+        → IfOk result (λ i.
+        value_in env.entry (cases p (arms_in (exprs_of_codes (scope_in env.entry) parts.now)))
+        ≡ value_in env.entry (code_in env.entry (slice_index_or parts.now i d))) }
+    ensures members { (p : AnyPlace) (d : Code) (v : Tree)
+        → IfOk result (λ i.
+        has_in env.entry v (cases p (arms_in (exprs_of_codes (scope_in env.entry) parts.now)))
+        ≡ has_in env.entry v (code_in env.entry (slice_index_or parts.now i d))) }
 {
     let arms = parts.len() / 2;
     for arm in 0..arms {
         let condition = &parts[2 * arm];
         if truth(alloc, condition, env)? {
-            let part = &parts[2 * arm + 1];
-            return value(alloc, part, env);
+            return Ok(2 * arm + 1);
         }
     }
     if 2 * arms < parts.len() {
-        let last = &parts[2 * arms];
-        value(alloc, last, env)
+        Ok(2 * arms)
     } else {
         Err(Stop::GaveUp)
     }

@@ -12,6 +12,7 @@ ghost use Rattle.tla_quick.specs.Private.Environment.{code_in, value_in, has_in,
 
 use crate::environment::Environment;
 use crate::evaluation::held::held;
+use crate::evaluation::lists::taken_part;
 use crate::evaluation::{has, truth, value, value_of_form};
 use crate::made::{compared, known_members};
 use crate::stop::Stop;
@@ -100,7 +101,7 @@ fn is_member<'m: 'a, 'a>(
     }
 }
 
-/// Whether a form that compares values is TRUE, where the left value is known.
+/// Whether a form that compares values is TRUE, given the left value.
 #[cycle(evaluate)]
 fn compared_with<'m: 'a, 'a>(
     alloc: Global,
@@ -168,11 +169,15 @@ pub(super) fn truth_of_list<'m: 'a, 'a>(
     match form {
         ListForm::Conjunction => all_are_true(alloc, parts, env),
         ListForm::Disjunction => some_is_true(alloc, parts, env),
+        ListForm::Cases => {
+            let index = taken_part(alloc, parts, env)?;
+            truth(alloc, &parts[index], env)
+        }
         _ => Err(Stop::GaveUp),
     }
 }
 
-/// Whether all parts are TRUE, up to the first that is not.
+/// Whether all parts are TRUE. Stops at the first that is FALSE.
 #[cycle(evaluate)]
 fn all_are_true<'m: 'a, 'a>(
     alloc: Global,
@@ -191,7 +196,7 @@ fn all_are_true<'m: 'a, 'a>(
     Ok(true)
 }
 
-/// Whether some part is TRUE, up to the first that is.
+/// Whether some part is TRUE. Stops at the first that is.
 #[cycle(evaluate)]
 fn some_is_true<'m: 'a, 'a>(
     alloc: Global,
@@ -210,7 +215,7 @@ fn some_is_true<'m: 'a, 'a>(
     Ok(false)
 }
 
-/// Whether a code has each of these values, up to the first that it has not.
+/// Whether each of these values is a member of a code. Stops at the first that isn't.
 #[cycle(evaluate)]
 pub(super) fn has_all<'m: 'a, 'a>(
     alloc: Global,

@@ -23,7 +23,7 @@ use tla_core::{Opening, Place};
 use tla_operators::evaluated::Evaluated;
 use tla_value::Value;
 
-/// A function with other values: each update on the result of the one before.
+/// `[f EXCEPT !p = e, ..]`: applies each update to the result of the one before.
 #[cycle(evaluate)]
 pub(super) fn value_of_except<'m: 'a, 'a>(
     alloc: Global,
@@ -63,7 +63,7 @@ fn updated_by_all<'m: 'a, 'a>(
     Ok(value)
 }
 
-/// A value with another one along a path.
+/// A value with the one at the end of a path replaced.
 #[cycle(evaluate)]
 fn updated<'m: 'a, 'a>(
     alloc: Global,
@@ -114,7 +114,7 @@ fn updated_at<'m: 'a, 'a>(
     }
 }
 
-/// The value of a body under the items of elements.
+/// The value of a body under the items of destructured elements.
 #[cycle(evaluate)]
 pub(super) fn opened<'m: 'a, 'a>(
     alloc: Global,

@@ -1,4 +1,4 @@
--- When a code is a copy of another, and when it has the same expression as another in a longer scope.
+-- When a code is a copy of another, and when it denotes the same expression as another in a longer scope.
 use Rattle.std.specs.Prelude.{◌≡◌, ◌≤◌, ◌+◌, ℕ, List, [], ◌∷◌, ◌++◌}
 use Rattle.std.specs.List.{AllZip}
 use Rattle.std.proofs.Common.{Vec, Bor, Global}
@@ -23,15 +23,15 @@ AreFields k fs gs = (scope : Scope) → HasNames scope k.outside.now → fields_
 abbrev pub AreUpdates : Shift → List (Vec Code Global × Code) → List (Vec Code Global × Code) → Type 0
 AreUpdates k us vs = (scope : Scope) → HasNames scope k.outside.now → updates_of_codes scope vs ≡ raise_updates k.from k.by (updates_of_codes scope us)
 
--- a use under `since` names is the copy of one under `names`, where `outer` names are bound outside the definition
+-- a use under `since` names is the copy of one under `names`, if `outer` names are bound outside the definition
 abbrev pub IsUse : ℕ → ℕ → ℕ → ℕ → ℕ → Type 0
 IsUse outer names since from by = (since ≡ names + by) × (outer ≤ from) × (from ≤ outer + names)
 
--- ---- codes that have the same expression once there is another definition
+-- ---- codes that denote the same expression once there is another definition
 abbrev pub Longer : Scope → ℕ → Code → Scope
 Longer scope names d = scope ++ (names, expr_in scope d) ∷ []
 
--- the second has under the new definition the expression that the first has without it
+-- under the new definition, the second denotes what the first denotes without it
 abbrev pub Replaces : Target → Code → Code → Type 0
 Replaces t old new = (scope : Scope) → HasNames scope t.outside.now → expr_in (Longer scope t.names t.definition.now) new ≡ expr_in scope old
 
@@ -41,7 +41,7 @@ FieldReplaces t old new = (new.0.now ≡ old.0.now) × Replaces t old.1 new.1
 abbrev pub UpdateReplaces : Target → Vec Code Global × Code → Vec Code Global × Code → Type 0
 UpdateReplaces t old new = AllZip (Replaces t) old.0.items new.0.items × Replaces t old.1 new.1
 
--- ---- codes that have the same expression in each scope
+-- ---- codes that denote the same expression in each scope
 abbrev pub Agrees : List ℕ → Code → Code → Type 0
 Agrees outside old new = (scope : Scope) → HasNames scope outside → expr_in scope new ≡ expr_in scope old
 

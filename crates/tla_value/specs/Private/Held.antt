@@ -1,4 +1,4 @@
--- What a set or a function holds: nothing where it is empty, else shared members, or arguments and values.
+-- The contents of a set or a function: none if it is empty, else shared members, or arguments and values.
 use Rattle.std.specs.Prelude.{◌≡◌, ℕ, ◌<◌, List, [], length, map, zip, Option, None, Some}
 use Rattle.std.specs.Arc.{arc_value}
 use Rattle.std.specs.declared.sync.Arc.{Arc}
@@ -37,11 +37,11 @@ abbrev pub FitsDomain : ℕ → Domain → Type 0
 FitsDomain n (Numbers z) = (0 < n) × FitNumbers n z
 FitsDomain n (Listed ts) = length ts ≡ n
 
--- each argument beside its value
+-- each argument with its value
 abbrev pub entry_pairs : Domain → List Value → List (Tree × Tree)
 entry_pairs d vs = zip (domain_trees (length vs) d) (map tree_of vs)
 
--- the same with another value at a place
+-- the same with the value at an index replaced
 abbrev pub changed_pairs : Entries → ℕ → Value → List (Tree × Tree)
 changed_pairs e i v = with_value_at (entry_pairs e.domain e.values.items) i (tree_of v)
 
@@ -61,7 +61,7 @@ abbrev pub fun_hash : Option (Arc Entries Global) → ℕ
 fun_hash None = word_of []
 fun_hash (Some held) = (arc_value held).hash
 
--- the members of a set beside how deep it is nested and the hash that is kept of them; a function's pairs likewise
+-- the members of a set, with the nesting and the hash that are stored with them; likewise for a function
 pub record IsHeldSet (ts : List Tree) (nesting hash : ℕ) : Type 0 where
   pub shape : IsSetValue ts nesting
   pub hashed : hash ≡ word_of (trees_writes (trees ts))
@@ -71,7 +71,7 @@ pub record IsHeldFun (held : Option (Arc Entries Global)) : Type 0 where
   pub shape : IsFunValue (held_pairs held) (fun_nesting held)
   pub hashed : fun_hash held ≡ word_of (pairs_writes (pairs (held_pairs held)))
 
--- the values of a state beside the hash that is kept of them
+-- the values of a state, with the hash that is stored with them
 pub record IsHeldState (ts : List Tree) (hash : ℕ) : Type 0 where
   pub are : AreValues (trees ts)
   pub hashed : hash ≡ word_of (trees_writes (trees ts))

@@ -1,4 +1,4 @@
--- What a string holds: its bytes, or a text that is shared.
+-- The contents of a string: its bytes, or a shared text.
 use Rattle.std.specs.Prelude.{◌≡◌, ◌≤◌, ℕ, List, length, string_bytes, take}
 use Rattle.std.specs.Arc.{arc_value}
 use Rattle.tla_value.specs.declared.text.Held.{Held}

@@ -13,7 +13,7 @@ use Rattle.tla_code.specs.Private.Listed.{exprs_of_cores, fields_of_list, parts_
 use Rattle.tla_code.proofs.Listed.{zip_more, all_stand, fields_stand, updates_stand, arms_read, arms_more, enumerated_in, tuple_in, conjunction_in, disjunction_in, product_in, cases_in, cases_or_in, record_of_in, records_in, image_in, function_in, except_in, list_in, fields_of_in, map_in, except_of_in, stands}
 use Rattle.tla_code.proofs.arranged.+arrange.Goals as goal
 
--- ---- forms with lists: the parts of the node, and of the list that stands in its memory
+-- ---- forms with lists: the parts of the node, and of its list in memory
 
 pub arranged_other-returns-in-Enumerated : goal.arranged_other-returns-in-Enumerated
 arranged_other-returns-in-Enumerated t c =
@@ -78,7 +78,7 @@ arranged_other-returns-in-Some t c =
     ((λ i. cases m.place (arms_of_list (c.deref-in-Some.ensures.value i) (other (expr_of (c.deref-in-Some-2.ensures i)))))
     ∙ sym (ap expr_of (m.is ∙ ap (cores.Cases m.place m.arms) c.in-Some.is) ∙ cases_or_in m.place m.arms body)) c.cases-in-Some.ensures
 
--- ---- nodes of parts that stand for the parts
+-- ---- nodes of codes that denote the parts
 -- a CASE of parts, the last of which may be that of OTHER
 pub cases-returns-in_ok-push-in-Some : goal.cases-returns-in_ok-push-in-Some
 cases-returns-in_ok-push-in-Some t c = λ scope.

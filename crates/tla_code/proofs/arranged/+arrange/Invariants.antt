@@ -16,7 +16,7 @@ invariant-arranged_fields-loop-field l = AllZip FieldStandsFor (take l.field-ind
 abbrev pub invariant-arranged_updates-loop-update : goal.invariant-arranged_updates-loop-update
 invariant-arranged_updates-loop-update l = AllZip UpdateStandsFor (take l.update-index l.updates) l.codes.items
 
--- ---- how deep what is left is, and then which function comes before which
+-- ---- the measure: the depth of the rest, then an order of the functions
 abbrev size_of_other : Option (Bor Core) → ℕ
 size_of_other None = 0
 size_of_other (Some core) = size-Core core.now

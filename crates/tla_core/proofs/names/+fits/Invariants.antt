@@ -6,7 +6,7 @@ use Rattle.tla_core.specs.declared.expression.Core.{Core, size-Core}
 use Rattle.tla_core.specs.Fits.{fits, Counts}
 use Rattle.tla_core.proofs.names.+fits.Given as goal
 
--- what is left of the parts decides
+-- the rest of the parts decides
 abbrev pub invariant-all_fit-loop-part : goal.invariant-all_fit-loop-part
 invariant-all_fit-loop-part l =
     (n : ℕ) → Counts l.names n
@@ -31,7 +31,7 @@ invariant-updates_fit-loop-update l =
     → list_all (update_fits n l.variables l.now) l.updates
     ≡ list_all (update_fits n l.variables l.now) (drop l.update-index l.updates)
 
--- ---- how deep what is left is, and then which function comes before which
+-- ---- the measure: the depth of the rest, then an order of the functions
 abbrev pub decreases-fits_within : goal.decreases-fits_within
 decreases-fits_within l = 4 * size-Core l.core.now
 

@@ -4,7 +4,7 @@ use Rattle.tla_core.specs.declared.expression.Opening.{Opening}
 use Rattle.tla_core.specs.Fits.{Counts}
 use Rattle.tla_core.proofs.names.are_bound.Given as goal
 
--- what is left of the openings decides
+-- the rest of the openings decides
 abbrev pub invariant-loop-opening : goal.invariant-loop-opening
 invariant-loop-opening l =
     (n : ℕ) → Counts l.names n

@@ -7,7 +7,7 @@ use Rattle.tla_value.specs.Choices.{parts_of}
 use Rattle.tla_core.specs.Meaning.{any_primed}
 use Rattle.tla_core.proofs.primed.+primed.Given as goal
 
--- what is left of the parts decides
+-- the rest of the parts decides
 abbrev pub invariant-some_has_next-loop-part : goal.invariant-some_has_next-loop-part
 invariant-some_has_next-loop-part l = any_primed (parts_of_cores l.parts) ≡ any_primed (parts_of_cores (drop l.part-index l.parts))
 
@@ -20,7 +20,7 @@ invariant-arms_have_next-loop-arm l = arms_primed (arms_of_cores l.arms) ≡ arm
 abbrev pub invariant-updates_have_next-loop-update : goal.invariant-updates_have_next-loop-update
 invariant-updates_have_next-loop-update l = updates_primed (updates_of_cores l.updates) ≡ updates_primed (updates_of_cores (drop l.update-index l.updates))
 
--- ---- how deep what is left is, and then which function comes before which
+-- ---- the measure: the depth of the rest, then an order of the functions
 abbrev pub decreases-has_next : goal.decreases-has_next
 decreases-has_next l = 4 * size-Core l.core.now
 

@@ -4,14 +4,14 @@ use Rattle.tla_core.specs.FixedOf.{fixed_of}
 use Rattle.tla_core.specs.Private.Known.{named_fixed}
 use Rattle.tla_core.proofs.same.+same.Given as goal
 
--- what came before is the same
+-- the part before is equal
 abbrev pub invariant-same_parts-loop-i : goal.invariant-same_parts-loop-i
 invariant-same_parts-loop-i l = map fixed_of (take l.i l.parts) ≡ map fixed_of (take l.i l.others)
 
 abbrev pub invariant-same_fields-loop-i : goal.invariant-same_fields-loop-i
 invariant-same_fields-loop-i l = map named_fixed (take l.i l.named) ≡ map named_fixed (take l.i l.others)
 
--- ---- how deep what is left is, and then which function comes before which
+-- ---- the measure: the depth of the rest, then an order of the functions
 abbrev pub decreases-same_tree : goal.decreases-same_tree
 decreases-same_tree l = 4 * size-Fixed l.left.now
 

@@ -5,7 +5,7 @@ use Rattle.tla_core.specs.Kinds.{as_set}
 use Rattle.tla_core.specs.Lists.{each}
 use Rattle.tla_operators.proofs.sets.as_sets.Given as goal
 
--- what is left, after what is there
+-- the rest, after the part that is done
 abbrev pub invariant-loop-value : goal.invariant-loop-value
 invariant-loop-value l =
     each (as_set l.place) (map tree_of_evaluated l.values)

@@ -5,7 +5,7 @@ use Rattle.tla_core.specs.Operators.{joined_sets}
 use Rattle.tla_operators.specs.Gathered.{then_more, IsGathered}
 use Rattle.tla_operators.proofs.sets.joined.Given as goal
 
--- what is left, after what came
+-- the rest, after the part that is done
 abbrev pub invariant-loop-set : goal.invariant-loop-set
 invariant-loop-set l =
     (kept : List Tree) × IsGathered kept l.gathered ×

@@ -10,8 +10,8 @@ use Rattle.tla_core.specs.Fault.{Outcome, ◌>>=◌}
 use Rattle.tla_core.specs.Expr.{Expr, cases, except}
 use Rattle.tla_core.specs.Kinds.{as_set, as_truth, items, make_fun}
 use Rattle.tla_core.specs.Lists.{each}
-use Rattle.tla_core.specs.Meaning.{Bound, Present, Next, asks, as_tree, elements}
-use Rattle.tla_core.specs.Value.{val, means, mean_all, mean_fields}
+use Rattle.tla_core.specs.Meaning.{Meaning, Bound, Present, Next, asks, as_tree, elements}
+use Rattle.tla_core.specs.Value.{val, mem, means, mean_all, mean_fields}
 use Rattle.tla_code.specs.CodeExpr.{expr_in}
 use Rattle.tla_code.specs.Forms.{two_expr, list_expr, field_expr, map_expr, arms_in}
 use Rattle.tla_code.specs.Private.Listed.{exprs_of_codes, fields_of_codes, updates_of_codes}
@@ -100,11 +100,11 @@ fields::value_of_fields-returns-in_ok-made_record-in-Record t c =
     ∙ ap (λ (o : Outcome (List (Tree × Tree))). o >>= make_fun p) c.in_ok-pairs-in-Record.ensures ∙ c.in_ok-made_record-in-Record.ensures
 
 -- ---- one name
--- whether a body is TRUE of an element
+-- whether a body is TRUE for an element
 abbrev body_of : Place → Code → Environment → Tree → Outcome Bool
 body_of p body env v = asks p (means (code_in env body)) (bound_in env ++ v ∷ []) (present_in env) (next_in env)
 
--- what is told of an element that is there
+-- the result for an element that exists
 told : (p : Place) (e : Expr) (b : Bound) (s : Present) (t : Next) (o : Option Tree) (v : Tree) (r : Result Bool Stop) → o ≡ Some v → Answers truth r (val e (b ++ v ∷ []) s t)
     → Answers (λ (x : Bool). Some x) r (tested (λ u. asks p (means e) (b ++ u ∷ []) s t) o)
 told p e b s t o v (Ok x) h k =
@@ -279,36 +279,79 @@ logic::truth_of_list-returns-in-Disjunction t c p =
     let env = c.args.env in
     same_answer truth c.some_is_true.result _ _ (ap (λ (f : ListForm). value_in env (list_expr f p (exprs_of_codes (scope_in env) c.args.parts.now))) c.in-Disjunction.is) (c.some_is_true.ensures p)
 
--- ---- the arms of a CASE
-pub lists::value_of_list-returns-in-Cases : goal.lists::value_of_list-returns-in-Cases
-lists::value_of_list-returns-in-Cases t c =
+-- ---- the part that a CASE takes
+pub lists::taken_part-loop-arm-preserved : goal.lists::taken_part-loop-arm-preserved
+lists::taken_part-loop-arm-preserved t c p =
     let env = c.args.env in
-    same_answer tree_of_evaluated c.value_of_cases.result _ _ (ap (λ (f : ListForm). value_in env (list_expr f c.args.place.now (exprs_of_codes (scope_in env) c.args.parts.now))) c.in-Cases.is) (c.value_of_cases.ensures c.args.place.now)
+    let b = bound_in env in let s = present_in env in let q = next_in env in (
+      (c.loop-arm.invariant p).0
+          ∙ arm_passed (scope_in env) b s q p (λ (m : Meaning). m.value b s q) c.args.parts.now c.loop-arm.arm c.index-parts-arm.result c.index-parts-arm.is (omega (arith, c.loop-arm-test.true)) c.in_ok-truth.field-0 c.in_ok-truth.ensures c.if-branch.false,
+      λ v. (c.loop-arm.invariant p).1 v
+          ∙ arm_passed (scope_in env) b s q p (λ (m : Meaning). m.has v b s q) c.args.parts.now c.loop-arm.arm c.index-parts-arm.result c.index-parts-arm.is (omega (arith, c.loop-arm-test.true)) c.in_ok-truth.field-0 c.in_ok-truth.ensures c.if-branch.false,
+    )
 
-pub lists::value_of_cases-loop-arm-preserved : goal.lists::value_of_cases-loop-arm-preserved
-lists::value_of_cases-loop-arm-preserved t c p =
+pub lists::taken_part-returns-then-branch-clause-value : goal.lists::taken_part-returns-then-branch-clause-value
+lists::taken_part-returns-then-branch-clause-value t c p d =
     let env = c.args.env in
-    c.loop-arm.invariant p
-    ∙ arm_passed (scope_in env) (bound_in env) (present_in env) (next_in env) p c.args.parts.now c.loop-arm.arm c.index-parts-arm.result c.index-parts-arm.is (omega (arith, c.loop-arm-test.true)) (c.in_ok-truth.ensures ∙ ap (λ h. Ok (truth h)) c.if-branch.false)
+    let b = bound_in env in let s = present_in env in let q = next_in env in
+    (c.loop-arm.invariant p).0
+    ∙ arm_taken (scope_in env) b s q p (λ (m : Meaning). m.value b s q) c.args.parts.now c.loop-arm.arm c.index-parts-arm.result c.index-parts-arm.is (omega (arith, c.loop-arm-test.true)) c.in_ok-truth.field-0 c.in_ok-truth.ensures d c.if-branch.true
 
-pub lists::value_of_cases-returns-then-branch : goal.lists::value_of_cases-returns-then-branch
-lists::value_of_cases-returns-then-branch t c p =
+pub lists::taken_part-returns-then-branch-clause-members : goal.lists::taken_part-returns-then-branch-clause-members
+lists::taken_part-returns-then-branch-clause-members t c p d v =
     let env = c.args.env in
-    let e = c.loop-arm.invariant p
-    ∙ arm_taken (scope_in env) (bound_in env) (present_in env) (next_in env) p c.args.parts.now c.loop-arm.arm c.index-parts-arm.result c.index-parts-arm-then-branch.result c.index-parts-arm.is c.index-parts-arm-then-branch.is (omega (arith, c.loop-arm-test.true)) (c.in_ok-truth.ensures ∙ ap (λ h. Ok (truth h)) c.if-branch.true) in
-    same_answer tree_of_evaluated c.value.result _ _ e c.value.ensures
+    let b = bound_in env in let s = present_in env in let q = next_in env in
+    (c.loop-arm.invariant p).1 v
+    ∙ arm_taken (scope_in env) b s q p (λ (m : Meaning). m.has v b s q) c.args.parts.now c.loop-arm.arm c.index-parts-arm.result c.index-parts-arm.is (omega (arith, c.loop-arm-test.true)) c.in_ok-truth.field-0 c.in_ok-truth.ensures d c.if-branch.true
 
-pub lists::value_of_cases-returns-then-arms-parts : goal.lists::value_of_cases-returns-then-arms-parts
-lists::value_of_cases-returns-then-arms-parts t c p =
+pub lists::taken_part-returns-then-arms-parts-clause-value : goal.lists::taken_part-returns-then-arms-parts-clause-value
+lists::taken_part-returns-then-arms-parts-clause-value t c p d =
     let env = c.args.env in
+    let b = bound_in env in let s = present_in env in let q = next_in env in
     let codes = c.args.parts.now in
     let n : 2 * c.loop-arm.arm ≡ 2 * (length codes / 2) = omega (arith, c.loop-arm-test.false, c.loop-arm.auto.arm-end) in
-    let e = c.loop-arm.invariant p
-    ∙ ap (λ k. val (cases p (arms_in (exprs_of_codes (scope_in env) (drop k codes)))) (bound_in env) (present_in env) (next_in env)) n
-    ∙ arm_other (scope_in env) (bound_in env) (present_in env) (next_in env) p codes (2 * (length codes / 2)) c.index-parts-arms.result c.index-parts-arms.is (omega (arith, c.if-arms-parts.true)) in
-    same_answer tree_of_evaluated c.value-then-arms-parts.result _ _ e c.value-then-arms-parts.ensures
+    (c.loop-arm.invariant p).0
+    ∙ ap (λ k. val (cases p (arms_in (exprs_of_codes (scope_in env) (drop k codes)))) b s q) n
+    ∙ arm_other (scope_in env) b s q p (λ (m : Meaning). m.value b s q) codes (2 * (length codes / 2)) d (omega (arith, c.if-arms-parts.true))
 
--- ---- sets that are asked or gone over
+pub lists::taken_part-returns-then-arms-parts-clause-members : goal.lists::taken_part-returns-then-arms-parts-clause-members
+lists::taken_part-returns-then-arms-parts-clause-members t c p d v =
+    let env = c.args.env in
+    let b = bound_in env in let s = present_in env in let q = next_in env in
+    let codes = c.args.parts.now in
+    let n : 2 * c.loop-arm.arm ≡ 2 * (length codes / 2) = omega (arith, c.loop-arm-test.false, c.loop-arm.auto.arm-end) in
+    (c.loop-arm.invariant p).1 v
+    ∙ ap (λ k. mem v (cases p (arms_in (exprs_of_codes (scope_in env) (drop k codes)))) b s q) n
+    ∙ arm_other (scope_in env) b s q p (λ (m : Meaning). m.has v b s q) codes (2 * (length codes / 2)) d (omega (arith, c.if-arms-parts.true))
+
+pub lists::value_of_list-returns-in_ok-index-in-Cases : goal.lists::value_of_list-returns-in_ok-index-in-Cases
+lists::value_of_list-returns-in_ok-index-in-Cases t c =
+    let env = c.args.env in
+    let p = c.args.place.now in
+    let e = ap (λ (f : ListForm). value_in env (list_expr f p (exprs_of_codes (scope_in env) c.args.parts.now))) c.in-Cases.is
+    ∙ c.in_ok-index-in-Cases.ensures.value p c.index-parts-index.result
+    ∙ ap (λ (k : Code). value_in env (code_in env k)) (sym c.index-parts-index.is) in
+    same_answer tree_of_evaluated c.value.result _ _ e c.value.ensures
+
+pub logic::truth_of_list-returns-in_ok-index-in-Cases : goal.logic::truth_of_list-returns-in_ok-index-in-Cases
+logic::truth_of_list-returns-in_ok-index-in-Cases t c p =
+    let env = c.args.env in
+    let e = ap (λ (f : ListForm). value_in env (list_expr f p (exprs_of_codes (scope_in env) c.args.parts.now))) c.in-Cases.is
+    ∙ c.in_ok-index-in-Cases.ensures.value p c.index-parts-index.result
+    ∙ ap (λ (k : Code). value_in env (code_in env k)) (sym c.index-parts-index.is) in
+    same_answer truth c.truth.result _ _ e c.truth.ensures
+
+pub asked::has_in_list-returns-in_ok-index-in-Cases : goal.asked::has_in_list-returns-in_ok-index-in-Cases
+asked::has_in_list-returns-in_ok-index-in-Cases t c =
+    let env = c.args.env in
+    let p = c.args.place.now in
+    let v = tree_of c.args.member.now in
+    let e = ap (λ (f : ListForm). has_in env v (list_expr f p (exprs_of_codes (scope_in env) c.args.parts.now))) c.in-Cases.is
+    ∙ c.in_ok-index-in-Cases.ensures.members p c.index-parts-index.result v
+    ∙ ap (λ (k : Code). has_in env v (code_in env k)) (sym c.index-parts-index.is) in
+    same_answer (λ (x : Bool). x) c.has.result _ _ e c.has.ensures
+
+-- ---- sets that are tested or iterated over
 pub asked::has_in_list-returns-in-Product : goal.asked::has_in_list-returns-in-Product
 asked::has_in_list-returns-in-Product t c =
     let env = c.args.env in

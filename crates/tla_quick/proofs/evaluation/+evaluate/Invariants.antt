@@ -10,7 +10,7 @@ use Rattle.tla_core.specs.Meaning.{Meaning, asks}
 use Rattle.tla_core.specs.Functions.{update_all}
 use Rattle.tla_core.specs.SetForms.{field_has, parts_have}
 use Rattle.tla_core.specs.Expr.{cases}
-use Rattle.tla_core.specs.Value.{means, mean_all, mean_fields, mean_updates, val}
+use Rattle.tla_core.specs.Value.{means, mean_all, mean_fields, mean_updates}
 use Rattle.tla_code.specs.declared.code.Code.{size-Code}
 use Rattle.tla_code.specs.Forms.{arms_in}
 use Rattle.tla_code.specs.Private.Listed.{exprs_of_codes, fields_of_codes, updates_of_codes}
@@ -18,10 +18,10 @@ use Rattle.tla_operators.specs.Evaluated.{tree_of_evaluated}
 use Rattle.tla_operators.specs.Gathered.{then_more, IsGathered}
 use Rattle.tla_sets.specs.Elements.{elements_of}
 use Rattle.tla_eval.specs.Private.Parts.{named_value}
-use Rattle.tla_quick.specs.Private.Environment.{bound_in, present_in, next_in, scope_in, code_in, has_in}
+use Rattle.tla_quick.specs.Private.Environment.{bound_in, present_in, next_in, scope_in, code_in, value_in, has_in}
 use Rattle.tla_quick.proofs.evaluation.+evaluate.Given as goal
 
--- ---- how deep what is left is, and then which function comes before which
+-- ---- the measure: the depth of the rest, then an order of the functions
 abbrev pub decreases-value : goal.decreases-value
 decreases-value l = 2 ^ 66 * size-Code l.code.now + 2
 
@@ -85,8 +85,8 @@ decreases-lists::value_of_list l = 2 ^ 66 * goal.size-lists::value_of_list l + 1
 abbrev pub decreases-lists::values_of : goal.decreases-lists::values_of
 decreases-lists::values_of l = 2 ^ 66 * goal.size-lists::values_of l + 5
 
-abbrev pub decreases-lists::value_of_cases : goal.decreases-lists::value_of_cases
-decreases-lists::value_of_cases l = 2 ^ 66 * goal.size-lists::value_of_cases l + 5
+abbrev pub decreases-lists::taken_part : goal.decreases-lists::taken_part
+decreases-lists::taken_part l = 2 ^ 66 * goal.size-lists::taken_part l + 5
 
 abbrev pub decreases-lists::evaluated_each : goal.decreases-lists::evaluated_each
 decreases-lists::evaluated_each l = 2 ^ 66 * goal.size-lists::evaluated_each l + 5
@@ -220,16 +220,16 @@ decreases-fields::is_record_of l = 2 ^ 66 * goal.size-fields::is_record_of l + 1
 abbrev pub decreases-fields::fields_have : goal.decreases-fields::fields_have
 decreases-fields::fields_have l = 2 ^ 66 * goal.size-fields::fields_have l + 8
 
--- ---- what is left of a list decides
+-- ---- the rest of a list decides
 abbrev pub invariant-lists::values_of-loop-code : goal.invariant-lists::values_of-loop-code
 invariant-lists::values_of-loop-code l =
     each (λ (m : Meaning). m.value (bound_in l.env) (present_in l.env) (next_in l.env)) (mean_all (exprs_of_codes (scope_in l.env) l.codes))
     ≡ (each (λ (m : Meaning). m.value (bound_in l.env) (present_in l.env) (next_in l.env)) (mean_all (exprs_of_codes (scope_in l.env) (drop l.code-index l.codes))) >>= λ ys. Ok (map tree_of l.values.items ++ ys))
 
-abbrev pub invariant-lists::value_of_cases-loop-arm : goal.invariant-lists::value_of_cases-loop-arm
-invariant-lists::value_of_cases-loop-arm l = (p : Place) →
-    val (cases p (arms_in (exprs_of_codes (scope_in l.env) l.parts))) (bound_in l.env) (present_in l.env) (next_in l.env)
-    ≡ val (cases p (arms_in (exprs_of_codes (scope_in l.env) (drop (2 * l.arm) l.parts)))) (bound_in l.env) (present_in l.env) (next_in l.env)
+abbrev pub invariant-lists::taken_part-loop-arm : goal.invariant-lists::taken_part-loop-arm
+invariant-lists::taken_part-loop-arm l = (p : Place) →
+    let from = λ (n : ℕ). cases p (arms_in (exprs_of_codes (scope_in l.env) (drop n l.parts))) in
+    (value_in l.env (from 0) ≡ value_in l.env (from (2 * l.arm))) × ((v : Tree) → has_in l.env v (from 0) ≡ has_in l.env v (from (2 * l.arm)))
 
 abbrev pub invariant-lists::evaluated_each-loop-code : goal.invariant-lists::evaluated_each-loop-code
 invariant-lists::evaluated_each-loop-code l =

@@ -6,7 +6,7 @@ use Rattle.tla_core.specs.Patterns.{opened_items}
 use Rattle.tla_quick.specs.Private.Environment.{bound_in}
 use Rattle.tla_quick.proofs.leaves.open_items.Given as goal
 
--- what is left, after what is there
+-- the rest, after the part that is done
 abbrev pub invariant-loop-opening : goal.invariant-loop-opening
 invariant-loop-opening l = (p : Place) →
     opened_items p l.openings (bound_in l.env)

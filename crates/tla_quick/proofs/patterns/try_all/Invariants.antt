@@ -6,6 +6,6 @@ use Rattle.tla_core.specs.Patterns.{fitting}
 use Rattle.tla_quick.specs.Private.Answers.{nothing_of}
 use Rattle.tla_quick.proofs.patterns.try_all.Given as goal
 
--- what is left decides
+-- the rest decides
 abbrev pub invariant-loop-element : goal.invariant-loop-element
 invariant-loop-element l = (p : Place) → nothing_of (each (fitting p l.count) (map tree_of l.elements)) ≡ nothing_of (each (fitting p l.count) (map tree_of (drop l.element-index l.elements)))

@@ -6,7 +6,7 @@ use Rattle.tla_value.specs.declared.value.Value.{Value}
 use Rattle.tla_value.specs.Choices.{choices}
 use Rattle.tla_sets.proofs.domain.choice_at.Given as goal
 
--- the choice of the lists that are left with the number that is left, and after it what is chosen of the others
+-- the choice from the rest of the lists with the remaining number, followed by the part that is chosen
 abbrev pub invariant-loop-i : goal.invariant-loop-i
 invariant-loop-i l =
     slice_get (choices (map (λ (r : Bor (List Value)). map tree_of r.now) l.lists)) l.number

@@ -7,7 +7,7 @@ use Rattle.tla_core.specs.Kinds.{as_set}
 use Rattle.tla_core.specs.Lists.{each}
 use Rattle.tla_sets.proofs.domain.lists_of.Given as goal
 
--- what is left, after what is there
+-- the rest, after the part that is done
 abbrev pub invariant-loop-set : goal.invariant-loop-set
 invariant-loop-set l =
     each (as_set l.place) (map tree_of_evaluated l.sets)

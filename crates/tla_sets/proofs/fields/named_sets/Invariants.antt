@@ -5,7 +5,7 @@ use Rattle.tla_core.specs.Fault.{◌>>=◌}
 use Rattle.tla_sets.specs.Fields.{named_sets}
 use Rattle.tla_sets.proofs.fields.named_sets.Given as goal
 
--- what is left, after what is there
+-- the rest, after the part that is done
 abbrev pub invariant-loop-i : goal.invariant-loop-i
 invariant-loop-i l =
     named_sets l.place (fields_of_cores l.fields) (map tree_of_evaluated l.values)

@@ -18,7 +18,7 @@ decreases-are_fields l = 8 * goal.size-are_fields l + 3
 abbrev pub decreases-are_updates : goal.decreases-are_updates
 decreases-are_updates l = 8 * goal.size-are_updates l + 4
 
--- what is left decides
+-- the rest decides
 abbrev pub invariant-are_copies-loop-i : goal.invariant-are_copies-loop-i
 invariant-are_copies-loop-i l = AreCopies l.shift (drop l.i l.originals) (drop l.i l.copies) → AreCopies l.shift l.originals l.copies
 

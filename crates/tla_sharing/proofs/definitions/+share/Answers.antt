@@ -8,7 +8,7 @@ use Rattle.tla_sharing.specs.Private.Copies.{Agrees, FieldAgrees, UpdateAgrees}
 use Rattle.tla_sharing.proofs.Lengthened.{Stays, FieldStays, UpdateStays, weaker, list_stays, fields_node_stays, map_stays, except_stays, names_longer}
 use Rattle.tla_sharing.proofs.definitions.+share.Goals as goal
 
--- one definition more: the body stands inside it for what it stood for outside
+-- one more definition: the body denotes inside it what it denoted outside
 pub defined-returns : goal.defined-returns
 defined-returns t c = λ scope names.
     let next = c.in_ok-next.next in

@@ -33,7 +33,7 @@ decreases-fields_shared l = l.spot.calls
 abbrev pub decreases-updates_shared : goal.decreases-updates_shared
 decreases-updates_shared l = l.spot.calls
 
--- those so far stand for what they stood for
+-- those so far denote the same as before
 abbrev pub invariant-each_shared-loop-code : goal.invariant-each_shared-loop-code
 invariant-each_shared-loop-code l = AllZip (Agrees l.spot.outside.now) (take l.code-index l.codes) l.made.items
 

@@ -4,7 +4,7 @@ use Rattle.tla_value.specs.TreeOf.{tree_of, pair_of}
 use Rattle.tla_value.specs.Private.Inner.{ways, choice_of}
 use Rattle.tla_value.proofs.choice.choice_at.Given as goal
 
--- what is picked so far, and the rest of the choice, which has the number that is left among those of the other sets
+-- the pairs picked so far, and the rest of the choice, whose number is the remaining one among those of the other sets
 abbrev pub invariant-loop-i : goal.invariant-loop-i
 invariant-loop-i l =
     let lists = map (λ s. s.now) l.sets in

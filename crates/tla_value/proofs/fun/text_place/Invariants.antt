@@ -4,6 +4,6 @@ use Rattle.tla_value.specs.TreeOf.{tree_of}
 use Rattle.tla_value.specs.Sets.{is_member}
 use Rattle.tla_value.proofs.fun.text_place.Given as goal
 
--- what is left decides
+-- the rest decides
 abbrev pub invariant-loop-i : goal.invariant-loop-i
 invariant-loop-i l = is_member (text l.name) (map tree_of (drop l.i l.values)) ≡ is_member (text l.name) (map tree_of l.values)

@@ -6,7 +6,7 @@ use Rattle.tla_value.specs.TreeOf.{tree_of}
 use Rattle.tla_value.specs.TreeHash.{word_of, trees_writes}
 use Rattle.tla_value.proofs.hash.hash_items.Goals as goal
 
--- after the last member nothing is left to be fed
+-- after the last member nothing remains to be written
 pub returns : goal.returns
 unfolding word_of
 returns c =

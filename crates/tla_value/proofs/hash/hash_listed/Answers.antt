@@ -10,7 +10,7 @@ use Rattle.tla_value.proofs.Pairs.{at-zip, length-zip, map-zip, read_at}
 use Rattle.tla_value.proofs.Fed.{fed_first, fed_more}
 use Rattle.tla_value.proofs.hash.hash_listed.Goals as goal
 
--- after the first pair the others are left
+-- after the first pair the others remain
 pub loop-i-init : goal.loop-i-init
 loop-i-init c =
     let ks = c.args.arguments.now in
@@ -38,7 +38,7 @@ loop-i-preserved c =
     let fed = c.hash-in-loop-i.ensures ∙ ap (λ s. fold folding.write s (tree_writes (tree_of v))) (c.feed_behind.ensures ∙ ap (λ x. fold folding.write h (unless_next (tree_of x) (tree_of k) (tree_writes (tree_of k)))) (sym before)) in
     (λ j. fold folding.write (fed j) (writes_behind (tree_of (here j)) (pairs (map pair_of (drop (add-one i j) (zip ks vs)))))) ∙ sym more ∙ c.loop-i.invariant
 
--- after the last pair nothing is left to be fed
+-- after the last pair nothing remains to be written
 pub returns : goal.returns
 unfolding word_of
 returns c =

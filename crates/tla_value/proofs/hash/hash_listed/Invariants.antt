@@ -6,7 +6,7 @@ use Rattle.tla_value.specs.TreeHash.{pairs_writes, writes_behind}
 use Rattle.tla_value.specs.declared.value.Value.TheVariants.{Truth}
 use Rattle.tla_value.proofs.hash.hash_listed.Given as goal
 
--- what is left is still to be fed, after the argument before
+-- the rest is still to be written, after the argument before
 abbrev pub invariant-loop-i : goal.invariant-loop-i
 invariant-loop-i l =
     let ps = zip l.arguments l.values in

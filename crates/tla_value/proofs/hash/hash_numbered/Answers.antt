@@ -9,7 +9,7 @@ use Rattle.tla_value.specs.TreeHash.{word_of, trees_writes}
 use Rattle.tla_value.proofs.Fed.{fed_numbers}
 use Rattle.tla_value.proofs.hash.hash_numbered.Goals as goal
 
--- after the last value nothing is left to be fed
+-- after the last value nothing remains to be written
 pub returns : goal.returns
 unfolding word_of
 returns c =

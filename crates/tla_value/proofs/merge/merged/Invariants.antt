@@ -3,7 +3,7 @@ use Rattle.tla_value.specs.TreeOf.{tree_of}
 use Rattle.tla_value.proofs.Merges.{IsMerge}
 use Rattle.tla_value.proofs.merge.merged.Given as goal
 
--- what is merged is below all that is left, and with it has the members of both
+-- the merged part is below the rest, and together they have the members of both
 abbrev pub invariant-loop-i : goal.invariant-loop-i
 invariant-loop-i l = record {
   left : l.i ≤ length l.left;

@@ -6,7 +6,7 @@ use Rattle.tla_value.specs.Order.{tree_cmp}
 use Rattle.tla_value.specs.Sets.{is_member}
 use Rattle.tla_value.proofs.merge.reach.Given as goal
 
--- what was passed is neither the value nor above it
+-- the skipped items are below the value
 abbrev pub invariant-loop-at : goal.invariant-loop-at
 invariant-loop-at l = record {
   within : l.at ≤ length l.items;

@@ -3,7 +3,7 @@ use Rattle.tla_value.specs.TreeOf.{pair_of}
 use Rattle.tla_value.proofs.PairMerges.{IsPairMerge}
 use Rattle.tla_value.proofs.merge_pairs.merged_pairs.Given as goal
 
--- what is merged is below all that is left, and with it gives each argument its value
+-- the merged part is below the rest, and together they map each argument to its value
 abbrev pub invariant-loop-i : goal.invariant-loop-i
 invariant-loop-i l = record {
   left : l.i ≤ length l.left;

@@ -49,7 +49,7 @@ decreases-put_numbered_pair g l = 6 * depth (tree_of l.value.now) + 2
 abbrev pub decreases-put_pair : goal.decreases-put_pair
 decreases-put_pair g l = 6 * max (depth (tree_of l.argument.now)) (depth (tree_of l.value.now)) + 1
 
--- the first texts went out
+-- the first texts were written
 abbrev pub invariant-put_items-loop-i : goal.invariant-put_items-loop-i
 invariant-put_items-loop-i g l =
     Puts (g.W.Write.contents l.initial.out) (g.W.Write.contents l.out) l.initial.written (joined (codes ", ") (take l.i (member_texts (trees (map tree_of l.items))))) (Ok l.written)

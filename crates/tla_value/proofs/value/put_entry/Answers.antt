@@ -9,7 +9,7 @@ use Rattle.tla_value.proofs.Made.{deepest-there, deepest-with_value_at}
 use Rattle.tla_value.proofs.Pairs.{entry_length, entry_same, deepest-replaced}
 use Rattle.tla_value.proofs.value.put_entry.Goals as goal
 
--- the pairs once the value was put
+-- the pairs after the value was replaced
 changed : (e : Entries) (i : ℕ) (v : Value) (ws : List Value) → ws ≡ list_set e.values.items i v → entry_pairs e.domain ws ≡ changed_pairs e i v
 changed e i v ws h = entry_same e.domain e.domain e.values.items ws i v refl h
 

@@ -2,7 +2,7 @@ use Rattle.std.proofs.Common.{◌+◌, ◌*◌, max}
 use Rattle.tla_code.specs.declared.code.Code.{size-Code}
 use Rattle.tla_quick.proofs.evaluation.held.+held.Given as goal
 
--- ---- how deep what is left is
+-- ---- the measure: the depth of the rest
 abbrev pub decreases-held : goal.decreases-held
 decreases-held l = 2 * size-Code l.code.now
 
