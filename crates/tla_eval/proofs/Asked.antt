@@ -1,4 +1,4 @@
--- Parts that are asked one after the other, where one tells a fault, and functions into a set.
+-- Parts that are evaluated in turn, of which one faults, and functions into a set.
 use Rattle.std.proofs.Common.{◌≡◌, ◌⊎◌, ℕ, suc, ◌<◌, Bool, true, false, cond, List, [], ◌∷◌, length, drop, get_or, drop-cons, Some, Ok, Err, inl, inr, refl, sym, ap, ◌∙◌}
 use Rattle.tla_value.specs.Tree.{Tree, set, trees}
 use Rattle.tla_value.specs.Order.{tree_eq}
@@ -15,7 +15,7 @@ use Rattle.tla_core.specs.SetForms.{means-functions}
 use Rattle.tla_core.specs.Value.{means}
 use Rattle.tla_core.specs.ExprOf.{expr_of, parts_of_cores}
 
--- from the part that tells the fault on
+-- from the part that faults on
 module _ (p : Place) (b : Bound) (s : Present) (t : Next) (cores : List Core) (i : ℕ) (x : Core) (is : x ≡ get_or cores i x) (l : i < length cores) where
   here : parts_of_cores (drop i cores) ≡ means (expr_of x) ∷ parts_of_cores (drop (suc i) cores)
   here = ap parts_of_cores (drop-cons cores i x l ∙ ap (λ (y : Core). y ∷ drop (suc i) cores) (sym is))

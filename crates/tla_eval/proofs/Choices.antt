@@ -1,5 +1,5 @@
 -- The values of a body for all choices from some lists.
-use Rattle.std.proofs.Common.{◌≡◌, ℕ, zero, suc, ◌+◌, List, [], ◌∷◌, ◌++◌, length, drop, Option, Some, None, option_map, Ok, Err, ◌⊎◌, inl, inr, ⊎_elim, refl, sym, ap, ◌∙◌, add-one}
+use Rattle.std.proofs.Common.{◌≡◌, ℕ, zero, suc, ◌+◌, ◌<◌, List, [], ◌∷◌, ◌++◌, length, drop, Option, Some, None, option_map, Ok, Err, ◌⊎◌, inl, inr, ⊎_elim, refl, sym, ap, ◌∙◌, subst, add-one, arith}
 use Rattle.std.specs.Prelude.{slice_get}
 use Rattle.tla_value.specs.Tree.{Tree}
 use Rattle.tla_value.specs.Choices.{choices}
@@ -41,10 +41,6 @@ one_choice [] n = refl
 one_choice (x ∷ xs) zero = refl
 one_choice (x ∷ xs) (suc n) = one_choice xs n
 
-nothing_more : (kept : List Tree) (o : Outcome (List Tree)) → nothing_of (then_more kept o) ≡ nothing_of o
-nothing_more kept (Ok ys) = refl
-nothing_more kept (Err g) = refl
-
 module _ (e : Meaning) (b : Bound) (s : Present) (t : Next) where
   there : (o : Option (List Tree)) (v : Tree) → value_at e b s t o ≡ Ok (Some v) → (c : List Tree) × (o ≡ Some c) × (e.value (b ++ c) s t ≡ Ok v)
   there None v h = absurd (none_some h)
@@ -65,17 +61,6 @@ module _ (e : Meaning) (b : Bound) (s : Present) (t : Next) where
       some_none : (x : Tree) → (let r : Outcome (Option Tree) = Ok (Some x) in r ≡ Ok None) → ⊥
       some_none x k = cc
 
-  faults : (o : Option (List Tree)) (g : Fault) → value_at e b s t o ≡ Err g → (c : List Tree) × (o ≡ Some c) × (e.value (b ++ c) s t ≡ Err g)
-  faults None g h = absurd (ok_err h)
-    where
-      ok_err : (let r : Outcome (Option Tree) = Ok None in r ≡ Err g) → ⊥
-      ok_err k = cc
-  faults (Some c) g h = (c, refl, go (e.value (b ++ c) s t) h)
-    where
-      go : (r : Outcome Tree) → (r >>= λ x. Ok (Some x)) ≡ Err g → r ≡ Err g
-      go (Ok x) k = cc
-      go (Err f) k = cc
-
   pub value_here : (o : Option (List Tree)) (c : List Tree) (v : Tree) → o ≡ Some c → e.value (b ++ c) s t ≡ Ok v → value_at e b s t o ≡ Ok (Some v)
   value_here o c v h k = ap (λ (u : Option (List Tree)). value_at e b s t u) h ∙ ap (λ (r : Outcome Tree). r >>= λ x. Ok (Some x)) k
 
@@ -84,39 +69,24 @@ module _ (e : Meaning) (b : Bound) (s : Present) (t : Next) where
         → then_more kept (each (λ c. e.value (b ++ c) s t) (drop i all)) ≡ then_more new (each (λ c. e.value (b ++ c) s t) (drop (i + 1) all))
     value_more kept v new h k = let r = there (slice_get all i) v h in chosen_step (λ c. e.value (b ++ c) s t) kept all i r.0 r.1 v new r.2 k
 
-    pub value_stop : (kept : List Tree) (g : Fault) → value_at e b s t (slice_get all i) ≡ Err g → then_more kept (each (λ c. e.value (b ++ c) s t) (drop i all)) ≡ Err g
-    value_stop kept g h =
-        let r = faults (slice_get all i) g h in
-        chosen_from (λ c. e.value (b ++ c) s t) kept all i r.0 r.1 ∙ ap (λ (o : Outcome Tree). o >>= λ y. then_more (kept ++ y ∷ []) (each (λ c. e.value (b ++ c) s t) (drop (suc i) all))) r.2
-
-    pub value_first : (kept : List Tree) → then_more kept (each (λ c. e.value (b ++ c) s t) (drop i all)) ≡ (value_at e b s t (slice_get all i) >>= λ o. then_more kept (each (λ c. e.value (b ++ c) s t) (drop i all)))
-    value_first kept = go (value_at e b s t (slice_get all i)) refl
-      where
-        go : (r : Outcome (Option Tree)) → value_at e b s t (slice_get all i) ≡ r → then_more kept (each (λ c. e.value (b ++ c) s t) (drop i all)) ≡ (r >>= λ o. then_more kept (each (λ c. e.value (b ++ c) s t) (drop i all)))
-        go (Ok o) h = refl
-        go (Err g) h = value_stop kept g h
-
     pub value_end : (kept : List Tree) → value_at e b s t (slice_get all i) ≡ Ok None → then_more kept (each (λ c. e.value (b ++ c) s t) (drop i all)) ≡ Ok kept
     value_end kept h = chosen_end (λ c. e.value (b ++ c) s t) kept all i (gone (slice_get all i) h)
 
-    pub pass_more : (v : Tree) → value_at e b s t (slice_get all i) ≡ Ok (Some v) → nothing_of (each (λ c. e.value (b ++ c) s t) (drop i all)) ≡ nothing_of (each (λ c. e.value (b ++ c) s t) (drop (i + 1) all))
-    pass_more v h =
-        sym (nothing_more [] (each (λ c. e.value (b ++ c) s t) (drop i all)))
-        ∙ ap (λ (o : Outcome (List Tree)). nothing_of o) (value_more [] v (v ∷ []) h refl)
-        ∙ nothing_more (v ∷ []) (each (λ c. e.value (b ++ c) s t) (drop (i + 1) all))
+nothing_more : (kept : List Tree) (o : Outcome (List Tree)) → nothing_of (then_more kept o) ≡ nothing_of o
+nothing_more kept (Ok ys) = refl
+nothing_more kept (Err g) = refl
 
-    pub pass_stop : (g : Fault) → value_at e b s t (slice_get all i) ≡ Err g → nothing_of (each (λ c. e.value (b ++ c) s t) (drop i all)) ≡ Err g
-    pass_stop g h = sym (nothing_more [] (each (λ c. e.value (b ++ c) s t) (drop i all))) ∙ ap (λ (o : Outcome (List Tree)). nothing_of o) (value_stop [] g h)
+-- ---- the next of the choices that are left
+module _ (f : List Tree → Outcome Tree) (left : List (List Tree)) where
+  pub taken_more : (kept c : List Tree) (v : Tree) (new : List Tree) (rest : List (List Tree)) → slice_get left 0 ≡ Some c → f c ≡ Ok v → new ≡ kept ++ v ∷ [] → rest ≡ drop 1 left → then_more kept (each f left) ≡ then_more new (each f rest)
+  taken_more kept c v new rest at h e r = chosen_step f kept left 0 c at v new h e ∙ ap (λ cs. then_more new (each f cs)) (sym r)
 
-    pub pass_first : nothing_of (each (λ c. e.value (b ++ c) s t) (drop i all)) ≡ (value_at e b s t (slice_get all i) >>= λ o. nothing_of (each (λ c. e.value (b ++ c) s t) (drop i all)))
-    pass_first = go (value_at e b s t (slice_get all i)) refl
-      where
-        go : (r : Outcome (Option Tree)) → value_at e b s t (slice_get all i) ≡ r → nothing_of (each (λ c. e.value (b ++ c) s t) (drop i all)) ≡ (r >>= λ o. nothing_of (each (λ c. e.value (b ++ c) s t) (drop i all)))
-        go (Ok o) h = refl
-        go (Err g) h = pass_stop g h
-
-    pub pass_end : value_at e b s t (slice_get all i) ≡ Ok None → nothing_of (each (λ c. e.value (b ++ c) s t) (drop i all)) ≡ Ok tt
-    pass_end h = sym (nothing_more [] (each (λ c. e.value (b ++ c) s t) (drop i all))) ∙ ap (λ (o : Outcome (List Tree)). nothing_of o) (value_end [] h)
+  -- where the values aren't kept
+  pub passed_more : (c : List Tree) (v : Tree) (rest : List (List Tree)) → slice_get left 0 ≡ Some c → f c ≡ Ok v → rest ≡ drop 1 left → nothing_of (each f left) ≡ nothing_of (each f rest)
+  passed_more c v rest at h r =
+      sym (nothing_more [] (each f left))
+      ∙ ap nothing_of (taken_more [] c v (v ∷ []) rest at h refl r)
+      ∙ nothing_more (v ∷ []) (each f rest)
 
 pub image_is : (p : Place) (ms : List Meaning) (e : Meaning) (b : Bound) (s : Present) (t : Next) → (means-image p ms e).value b s t ≡ image_rule p ms e b s t
 image_is p ms e b s t = go (each (λ (m : Meaning). m.value b s t) ms)
@@ -148,7 +118,7 @@ chosen_long p e b s t vs ys h lists j =
     let r = bind-ok (each (as_set p) vs) (values_for e b s t) ys h in
     each_long (λ c. e.value (b ++ c) s t) (choices r.0) ys r.2 ∙ ap (λ ls. length (choices ls)) (same_list r.0 lists (sym r.1 ∙ j))
 
--- the function of several names, where what it is defined on is known
+-- the function of several names, if its domain is known
 module _ (p : Place) (e : Meaning) (b : Bound) (s : Present) (t : Next) (vs : List Tree) (lists : List (List Tree)) (are : each (as_set p) vs ≡ Ok lists) where
   pub rule_of_lists : chosen_rule p e b s t vs ≡ values_for e b s t lists
   rule_of_lists = ap (λ (o : Outcome (List (List Tree))). o >>= values_for e b s t) are
@@ -159,7 +129,7 @@ module _ (p : Place) (e : Meaning) (b : Bound) (s : Present) (t : Next) (vs : Li
   pub function_of_values : (ys : List Tree) → values_for e b s t lists ≡ Ok ys → function_for_rule p e b s t vs ≡ function_rule p vs ys
   function_of_values ys h = ap (λ (o : Outcome (List Tree)). o >>= function_rule p vs) (rule_of_lists ∙ h)
 
-  -- where the values are evaluated and not kept
+  -- if the values are evaluated and dropped
   pub function_first : function_for_rule p e b s t vs ≡ (nothing_of (values_for e b s t lists) >>= λ u. values_for e b s t lists >>= function_rule p vs)
   function_first = ap (λ (o : Outcome (List Tree)). o >>= function_rule p vs) rule_of_lists ∙ go (values_for e b s t lists)
     where

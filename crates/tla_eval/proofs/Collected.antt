@@ -1,4 +1,4 @@
--- What is evaluated one by one and kept: one more turn of a loop, and its end.
+-- Values that are evaluated in turn and collected: one more iteration of a loop, and its end.
 use Rattle.std.proofs.Common.{◌≡◌, ℕ, Bool, true, false, cond, zip, List, [], ◌∷◌, ◌++◌, Ok, Err, ap, sym, refl, ◌∙◌, append_assoc}
 use Rattle.tla_value.specs.Tree.{Tree, text}
 use Rattle.tla_value.specs.Choices.{keys_of, parts_of}

@@ -1,4 +1,4 @@
--- Elements that fit a pattern: the items of one, those of several one after the other, and a set of which each fits.
+-- Elements that fit a pattern: the items of one, those of several concatenated, and a set whose elements all fit.
 use Rattle.std.proofs.Common.{◌≡◌, ◌<◌, ℕ, suc, ◌+◌, Bool, false, List, ◌∷◌, ◌++◌, map, length, drop, get_or, Some, None, Ok, Err, inl, inr, refl, ap, sym, subst, ◌∙◌, ⊎_elim, add-one, drop-cons, append_assoc}
 use Rattle.std.specs.Prelude.{if◌then◌else◌}
 use Rattle.std.proofs.lemmas.Bool.{eq-eqb}
@@ -36,7 +36,7 @@ module _ (p : Place) (k : ℕ) (v : Tree) (vs : List Value) (is : items v ≡ So
 pub has_no_items : (p : Place) (k : ℕ) (v : Tree) → items v ≡ None → fitting p k v ≡ fault WrongKind p
 has_no_items p k v is = ap (λ o. or_fault WrongKind p (of_length k o)) is
 
--- ---- several elements: what the first of those that are left gives, and then the others
+-- ---- several elements: the items of the first of the rest, and then the others
 module _ (p : Place) (os : List Opening) (i : ℕ) (o : Opening) (b : Bound) (kept : List Tree) (v : Tree) (below : i < length os) (at : v ≡ get_or b (get_or os i o).name (truth false)) where
   pub opened_first : (opened_items p (drop i os) b >>= λ ys. Ok (kept ++ ys)) ≡ (fitting p (get_or os i o).items v >>= λ xs. opened_items p (drop (i + 1) os) b >>= λ ys. Ok ((kept ++ xs) ++ ys))
   opened_first =
@@ -64,7 +64,7 @@ each_nothing : {A : Type 0} (o : Outcome (List A)) (y : A) → nothing_of (o >>=
 each_nothing (Ok ys) y = refl
 each_nothing (Err f) y = refl
 
--- the first of the elements that are left, and then the others
+-- the first of the rest of the elements, and then the others
 pub each_first : (p : Place) (k : ℕ) (vs : List Value) (i : ℕ) (x : Value) → x ≡ get_or vs i x → i < length vs
     → nothing_of (each (fitting p k) (map tree_of (drop i vs))) ≡ (fitting p k (tree_of x) >>= λ xs. nothing_of (each (fitting p k) (map tree_of (drop (i + 1) vs))))
 each_first p k vs i x is below =

@@ -11,3 +11,4 @@ pub mod Tested
 pub mod Rows
 pub mod Fitting
 pub mod Asked
+pub mod Wheels

@@ -24,7 +24,7 @@ use Rattle.tla_operators.proofs.Members.{bind-ok, made-sized, choices-any, choic
 use Rattle.tla_eval.proofs.TwoSets.{then-ok, not-there, cond-and, has-elements}
 
 -- ---- sets of sequences and of records
--- what each part gives is a set
+-- the value of each part is a set
 abbrev pub Gives : Place → List Meaning → Bound → Present → Next → List (List Tree) → Type 0
 Gives at [] b s p [] = Unit {0}
 Gives at [] b s p (xs ∷ rest) = ⊥

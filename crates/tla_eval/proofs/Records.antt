@@ -63,7 +63,7 @@ keys-same at b s p [] (l ∷ ls) g = absurd g
 keys-same at b s p (f ∷ fs) [] g = absurd g
 keys-same at b s p (f ∷ fs) (l ∷ ls) g = ap (λ ks. text f.0 ∷ ks) (keys-same at b s p fs ls g.1)
 
--- where arguments rise, each pair is found by its argument
+-- if arguments rise, each pair is found by its argument
 pub not-eq : (a x : Tree) → tree_cmp x a ≡ Less → tree_eq a x ≡ false
 not-eq a x h = go (tree_cmp a x) (tree_cmp-total.antisymm a x ∙ ap ordering_reverse h)
   where
@@ -81,7 +81,7 @@ unfolding IsStrictlySortedBy
 each-found [] h = tt
 each-found (q ∷ qs) h = (ap (λ b. cond b (Some q.1) (value_at q.0 qs)) (eq-refl q.0), above-found q.0 q.1 qs qs h.0 (each-found qs h.1))
 
--- each value of a record stands in one of the sets
+-- each value of a record is in one of the sets
 pub field-into : (ps : List (Tree × Tree)) (fs : List (List ℕ × List Tree)) → list_all (λ (f : List ℕ × List Tree). if_there (value_at (text f.0) ps) f.1) fs ≡ true → (a v : Tree) → is_member a (keys_of fs) ≡ true → value_at a ps ≡ Some v → is_member v (flat_map (λ (f : List ℕ × List Tree). f.1) fs) ≡ true
 field-into ps [] h a v i e = cc
 field-into ps (f ∷ fs) h a v i e =

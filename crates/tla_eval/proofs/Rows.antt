@@ -1,4 +1,5 @@
--- Worked examples, each by computation. A fault is that of the outermost node, at column 1, where nothing else is said.
+-- Worked examples, each by computation. A fault is that of the outermost node, at column 1, unless the comment says
+-- otherwise.
 use Rattle.std.proofs.Common.{◌≡◌, ℕ, pos, negsuc, true, false, [], ◌∷◌, refl, None, Ok}
 use Rattle.tla_value.specs.Tree.{Tree, truth, int, text, set, fun, trees, pairs}
 use Rattle.tla_core.specs.declared.fault.Place.{Place}
@@ -154,7 +155,7 @@ product-count = refl
 product-member : run (member p (tuple p (more_exprs (n 1) (more_exprs (n 7) no_exprs))) (product p (more_exprs (enumerated p (more_exprs (n 1) no_exprs)) (more_exprs (kind_set p Naturals) no_exprs)))) ≡ Ok (truth true)
 product-member = refl
 
--- [ : ] has the empty function alone
+-- [ : ] has only the empty function
 records-empty : run (records p no_fields) ≡ Ok (set (trees (fun (pairs []) ∷ [])))
 records-empty = refl
 
@@ -250,11 +251,11 @@ field-none = refl
 assert-true : run (assert p (constant p (truth true)) one_by_zero) ≡ Ok (truth true)
 assert-true = refl
 
--- x' where it is not set
+-- x' if it is not set
 next-unset : val (next p 0) [] None (None ∷ []) ≡ fault NotSet p
 next-unset = refl
 
--- ---- tuple patterns: <<1, 2>> and <<1, 2, 3>>, each alone in a set, and a pattern of two names for the element that is bound name 0
+-- ---- tuple patterns: <<1, 2>> and <<1, 2, 3>>, each in a set of one, and a pattern of two names for bound name 0
 abbrev two : Expr
 two = tuple (at 97) (more_exprs (n 1) (more_exprs (n 2) no_exprs))
 
@@ -302,6 +303,6 @@ pattern-image_sets = refl
 pattern-member_longer : run (member p three (filtered p (alone three) (under_two_names yes))) ≡ fault WrongKind p
 pattern-member_longer = refl
 
--- <<1, 2, 3>> \in {<<a, b>> \in {<<1, 2>>} : TRUE}: no member of the set is tried
+-- <<1, 2, 3>> \in {<<a, b>> \in {<<1, 2>>} : TRUE}: no member of the set is checked against the pattern
 pattern-no_member : run (member p three (filtered p (alone two) (under_two_names yes))) ≡ Ok (truth false)
 pattern-no_member = refl

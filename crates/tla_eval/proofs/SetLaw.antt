@@ -1,4 +1,5 @@
--- The law of sets: where the value of an expression is a set, membership in it faults for no value, and is TRUE exactly of the set's members.
+-- The law of sets: if the value of an expression is a set, membership has no fault, and is TRUE exactly for the set's
+-- members.
 use Rattle.std.proofs.Common.{◌≡◌, ℕ, Bool, true, false, cond, List, [], ◌∷◌, refl, ap, ◌∙◌, Option, Some, None, Ok}
 use Rattle.std.specs.List.{AllByRecursion}
 use Rattle.tla_value.specs.Tree.{Tree, truth, int, text, model, set, fun, trees, members}

@@ -1,4 +1,4 @@
--- The law of stability: what an evaluation gives at a partial state, unless it is the fault of a value that is not set, it gives at each extension.
+-- The law of stability: extending a partial state doesn't change a result other than NotSet.
 use Rattle.std.proofs.Common.{◌≡◌, ℕ, Bool, true, false, ◌==◌, List, [], ◌∷◌, ◌++◌, filter, not, length, refl, ap, Option, Some, None, slice_get}
 use Rattle.std.specs.List.{AllByRecursion}
 use Rattle.tla_value.specs.Tree.{Tree, text, set, trees}

@@ -1,4 +1,4 @@
--- What is made of parts that stay stays.
+-- Forms of stable parts are stable.
 use Rattle.std.proofs.Common.{Bool, true, false, cond, List, [], ◌∷◌, refl, ap, ◌∙◌, Ok, Err}
 use Rattle.std.specs.List.{AllByRecursion}
 use Rattle.tla_value.specs.Tree.{Tree}

@@ -18,7 +18,7 @@ use Rattle.tla_operators.proofs.Members.{bind-ok}
 use Rattle.tla_eval.proofs.Collected.{passing_more}
 use Rattle.tla_sets.proofs.Listed.{drop_from, drop_past, get_past, none_more}
 
--- ---- an operator on two values that are known
+-- ---- an operator on two known values
 module _ (p : Place) (rule : Tree → Tree → Outcome Tree) (o o' : Outcome Tree) (x y x' y' : Tree) (e : o ≡ Ok x) (e' : o' ≡ Ok y) (f : x' ≡ x) (f' : y' ≡ y) where
   pub two_gone : ((o >>= λ a. o' >>= λ c. rule a c) >>= λ z. as_set p z) ≡ elements_rule p (rule x' y')
   two_gone =
@@ -34,7 +34,7 @@ module _ (p : Place) (rule : Tree → Tree → Outcome Tree) (o o' : Outcome Tre
       ∙ ap (λ a. has_rule p v (rule a y)) (sym f)
       ∙ ap (λ c. has_rule p v (rule x' c)) (sym f')
 
--- ---- what a test said of an element
+-- ---- the result of a test of an element
 there : (test : Tree → Outcome Bool) (o : Option Tree) (b : Bool) → tested test o ≡ Ok (Some b) → (v : Tree) × (o ≡ Some v) × (test v ≡ Ok b)
 there test None b h = absurd (none_some h)
   where
@@ -61,13 +61,13 @@ faults test (Some v) g h = (v, refl, go (test v) h)
 pub tested_there : (test : Tree → Outcome Bool) (o : Option Tree) (v : Tree) (b : Bool) → o ≡ Some v → test v ≡ Ok b → tested test o ≡ Ok (Some b)
 tested_there test o v b h k = ap (tested test) h ∙ ap (λ (r : Outcome Bool). r >>= λ x. Ok (Some x)) k
 
--- what a test says of an element that is there
+-- the result of a test of an element that exists
 pub tested_told : (test : Tree → Outcome Bool) (o : Option Tree) (v : Tree) (r : Result Bool Fault) → o ≡ Some v → GivesTruth r (test v) → GivesBy (λ (b : Bool). Some b) r (tested test o)
 tested_told test o v (Ok b) h k = tested_there test o v b h k
 tested_told test o v (Err f) h (inl m) = inl m
 tested_told test o v (Err f) h (inr e) = inr (ap (tested test) h ∙ ap (λ (r : Outcome Bool). r >>= λ x. Ok (Some x)) e)
 
--- ---- what goes over elements one by one, from one of them on
+-- ---- loops over elements, from one of them on
 module _ {A : Type 0} (test : Tree → Outcome Bool) (over : List Tree → Outcome A) (next : Tree → Bool → Outcome A → Outcome A) (turn : (v : Tree) (vs : List Tree) → over (v ∷ vs) ≡ (test v >>= λ b. next v b (over vs))) (xs : List Tree) (i : ℕ) where
   from_here : (v : Tree) → slice_get xs i ≡ Some v → over (drop i xs) ≡ (test v >>= λ b. next v b (over (drop (i + 1) xs)))
   from_here v h = rw add-one (ap over (drop_from xs i v h) ∙ turn v (drop (suc i) xs))
@@ -131,7 +131,7 @@ module _ (test : Tree → Outcome Bool) (xs : List Tree) (i : ℕ) where
   pub least_end : (p : Place) → length xs ≤ i → first_passing p test (drop i xs) ≡ fault NoChoice p
   least_end p h = ap (first_passing p test) (past h)
 
-  -- those that are TRUE, after those that are kept
+  -- those that are TRUE, after the collected ones
   pub kept_more : (old new : List Tree) (b : Bool) → tested test (slice_get xs i) ≡ Ok (Some b) → new ≡ cond b (old ++ option_to_list (slice_get xs i)) old
       → (passing test (drop i xs) >>= λ ys. Ok (old ++ ys)) ≡ (passing test (drop (i + 1) xs) >>= λ ys. Ok (new ++ ys))
   kept_more old new b h e =
@@ -151,7 +151,7 @@ module _ (test : Tree → Outcome Bool) (xs : List Tree) (i : ℕ) where
   pub kept_end : (old : List Tree) → length xs ≤ i → (passing test (drop i xs) >>= λ ys. Ok (old ++ ys)) ≡ Ok old
   kept_end old h = ap (λ us. passing test us >>= λ ys. Ok (old ++ ys)) (past h) ∙ ap (λ us. Ok us) (none_more old)
 
--- ---- whether a value is one of those of some parts
+-- ---- whether a value is one of the values of some parts
 pub one_of_is : (p : Place) (ms : List Meaning) (v : Tree) (b : Bound) (s : Present) (t : Next) → (means-enumerated p ms).has v b s t ≡ one_of_rule p ms v b s t
 one_of_is p ms v b s t = go (each (λ (m : Meaning). m.value b s t) ms)
   where

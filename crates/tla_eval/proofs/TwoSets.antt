@@ -1,4 +1,4 @@
--- Membership in the sets made of two: what is known of the parts is known of the whole.
+-- Membership in operators on two sets: known parts make the whole known.
 use Rattle.std.proofs.Common.{◌≡◌, Bool, true, false, cond, not, ◌&&◌, ◌||◌, List, [], ◌∷◌, ◌++◌, map, filter, zip, refl, sym, ap, ◌∙◌, Ok}
 use Rattle.std.specs.List.{AllByRecursion, list_all}
 use Rattle.std.specs.List.Sorted.{IsStrictlySortedBy}
@@ -22,7 +22,7 @@ use Rattle.tla_value.specs.ValueOrder.{trees-members, pairs-entries}
 use Rattle.tla_value.proofs.TreeTests.{bool-iff, or-first, eq-true, eq-same, member-filter}
 use Rattle.tla_operators.proofs.Members.{member-append, bind-ok, set-same, made, as_set-ok, any-sublists, sublists-found, into, member-functions, all-member, all-by}
 
--- ---- outcomes that are known
+-- ---- known outcomes
 pub all_hold-ok : {A : Type 0} (test : A → Outcome Bool) (known : A → Bool) (xs : List A) → AllByRecursion (λ x. test x ≡ Ok (known x)) xs → all_hold test xs ≡ Ok (list_all known xs)
 all_hold-ok test known [] h = refl
 all_hold-ok test known (x ∷ xs) h = ap (λ o. o >>= λ holds. cond holds (all_hold test xs) (Ok false)) h.0 ∙ go (known x) (all_hold-ok test known xs h.1)
@@ -31,7 +31,7 @@ all_hold-ok test known (x ∷ xs) h = ap (λ o. o >>= λ holds. cond holds (all_
     go true e = e
     go false e = refl
 
--- one known outcome, and then one that is known where it is asked for
+-- one known outcome, and then one that is known if it is needed
 pub then-known : (r : Outcome Bool) (x : Bool) (k : Bool → Outcome Bool) (y : Bool) → r ≡ Ok x → k x ≡ Ok y → (r >>= k) ≡ Ok y
 then-known r x k y e f = ap (λ o. o >>= k) e ∙ f
 
@@ -60,7 +60,7 @@ module _ {m : Meaning} (h : KnowsItsMembers m) (v : Tree) (iv : IsValue v) (b : 
 pub knows-by_value : (at : Place) (primed : Bool) (value : Bound → Present → Next → Outcome Tree) → KnowsItsMembers (by_value at primed value)
 knows-by_value at primed value = record { by = λ v iv b s p ts e. ap (λ (o : Outcome Tree). o >>= λ x. as_set at x >>= λ xs. Ok (is_member v xs)) e }
 
--- ---- which trees stand in the lists that make a set
+-- ---- the trees in the lists of a set
 pub not-there : {C : Type 0} (v : Tree) (f : C → Tree) (cs : List C) → ((c : C) → tree_eq v (f c) ≡ false) → is_member v (map f cs) ≡ false
 not-there v f [] h = refl
 not-there v f (c ∷ cs) h = ap (λ b. b || is_member v (map f cs)) (h c) ∙ not-there v f cs h
@@ -85,7 +85,7 @@ passing-step test v x xs zs ih true e false f =
 passing-step test v x xs zs ih false e true f = ih ∙ ap (λ (b : Bool). Ok (b || is_member v zs)) (sym e)
 passing-step test v x xs zs ih false e false f = ih
 
--- what passes the test are the members at which it is TRUE
+-- the members that pass the test are those at which it is TRUE
 pub member-passing : (test : Tree → Outcome Bool) (v : Tree) (xs ys : List Tree) → passing test xs ≡ Ok ys → cond (is_member v xs) (test v) (Ok false) ≡ Ok (is_member v ys)
 member-passing test v [] ys h = ap (λ us. Ok (is_member v us)) (ok-list [] ys _ refl h)
   where
@@ -99,7 +99,7 @@ member-passing test v (x ∷ xs) ys h =
     ok-list : (x y : List Tree) (o : Outcome (List Tree)) → o ≡ Ok x → o ≡ Ok y → x ≡ y
     ok-list x y o e f = cc
 
--- a rising list is the set of a sublist exactly where its elements stand in the list
+-- a rising list is the set of a sublist exactly if its elements are in the list
 pub member-power : (us : Trees) (xs : List Tree) → IsStrictlySortedBy tree_cmp (members us) → list_all (λ x. is_member x xs) (members us) ≡ is_member (set us) (map set_tree (sublists xs))
 member-power us xs rising =
     bool-iff _ _

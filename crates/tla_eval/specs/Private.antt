@@ -1,4 +1,5 @@
--- What serves the code: no public contract cites these.
+-- Definitions for the code: no public contract cites them.
 pub mod Chosen
 pub mod Environment
 pub mod Parts
+pub mod Wheels

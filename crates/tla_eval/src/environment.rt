@@ -1,4 +1,4 @@
-//! What an expression is evaluated in.
+//! The environment of an evaluation.
 ghost use Rattle.std.specs.Prelude.{◌≡◌, ◌≤◌, length, IfOk, IfErr, Ok, Some, false, get_or, option_map, slice_get};
 ghost use Rattle.tla_value.specs.Tree.{truth};
 ghost use Rattle.tla_value.specs.TreeOf.{tree_of};
@@ -13,7 +13,8 @@ use tla_operators::evaluated::Evaluated;
 use tla_operators::fault_ref::{FaultRef, fault_at};
 use tla_value::{State, Value};
 
-/// The values of the bound names: those of the caller, and then those of each form that binds, one or several at once.
+/// The values of the bound names, a linked list from the innermost frame out: those of forms that bind one name (`One`)
+/// or several (`Many`), and those of the caller (`Outer`).
 #[derive(Clone, Copy)]
 pub(crate) enum Frame<'a> {
     Outer(&'a [Value]),
@@ -29,8 +30,7 @@ pub(crate) struct Environment<'a> {
     pub(crate) next: &'a Partial,
 }
 
-/// The value of a bound name, or how many names are bound. It calls itself once for each form around it that binds
-/// names.
+/// The value of a bound name, or the number of bound names. Recurses once for each frame.
 fn bound_name<'a>(frame: &'a Frame<'a>, index: usize) -> Result<&'a Value, usize>
     ensures found { IfOk result (λ v.
         slice_get (bound_of frame.entry.now) index ≡ Some (tree_of v.now)) }
@@ -61,7 +61,7 @@ fn bound_name<'a>(frame: &'a Frame<'a>, index: usize) -> Result<&'a Value, usize
     }
 }
 
-/// The value of a bound name; FALSE for one that isn't there.
+/// The value of a bound name; FALSE if it doesn't exist.
 pub(crate) fn bound_value<'a>(frame: &'a Frame<'a>, index: usize) -> Evaluated<'a>
     ensures { tree_of_evaluated result ≡ get_or (bound_of frame.entry.now) index (truth false) }
 {
@@ -71,7 +71,7 @@ pub(crate) fn bound_value<'a>(frame: &'a Frame<'a>, index: usize) -> Evaluated<'
     }
 }
 
-/// The present value of a variable; FALSE for one that isn't there.
+/// The present value of a variable; FALSE if it doesn't exist.
 pub(crate) fn now_value<'a>(now: Option<&'a State>, variable: usize) -> Evaluated<'a>
     ensures { tree_of_evaluated result ≡ variable_of (option_map (λ s. s.now) now.entry) variable }
 {
@@ -84,7 +84,7 @@ pub(crate) fn now_value<'a>(now: Option<&'a State>, variable: usize) -> Evaluate
     }
 }
 
-/// The next value of a variable, where it is set.
+/// The next value of a variable; a fault if it isn't set.
 pub(crate) fn next_value<'p, 'a>(
     place: &'p Place,
     next: &'a Partial,

@@ -1,14 +1,14 @@
-//! Laws of evaluation and membership, over their definitions alone.
+//! Laws of the definitions of evaluation and membership.
 
 ghost use Rattle.tla_core.specs.Laws.{ValueIsStable, MembershipIsStable, MembershipIsOfTheSet};
 
-/// What an evaluation gives while some next values are not set, it gives when they are.
+/// Setting more next values doesn't change the result of an evaluation, unless it was the fault `NotSet`.
 pub fn stability()
     ensures value { ValueIsStable }
     ensures membership { MembershipIsStable }
 {}
 
-/// Where the value of an expression is a set, membership in it is membership in that set.
+/// If the value of an expression is a set, membership in the expression is membership in that set.
 pub fn sets()
     ensures { MembershipIsOfTheSet }
 {}

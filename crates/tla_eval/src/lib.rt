@@ -4,6 +4,7 @@
 mod environment;
 mod evaluation;
 pub mod laws;
+mod odometer;
 mod partial;
 mod patterns;
 

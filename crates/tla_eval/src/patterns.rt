@@ -1,4 +1,4 @@
-//! Elements that are replaced by their items.
+//! Tuple patterns: elements are replaced by their items.
 ghost use Rattle.std.specs.Prelude.{map};
 ghost use Rattle.tla_value.specs.TreeOf.{tree_of};
 ghost use Rattle.tla_core.specs.Lists.{each};
@@ -35,7 +35,7 @@ fn fitting<'p, 'a>(
     }
 }
 
-/// Copies of the items of the elements that bound names have, one after the other.
+/// Copies of the items of the elements of bound names, concatenated.
 pub(crate) fn open_items<'p, 'a>(
     alloc: Global,
     place: &'p Place,
@@ -54,8 +54,8 @@ pub(crate) fn open_items<'p, 'a>(
     Ok(items)
 }
 
-/// The items of the elements that these names have, one after the other, each a copy.
-/// An element that is no sequence of the length that is asked for is a fault of the form at the place.
+/// Copies of the items of the elements of these names, concatenated. An element that is no sequence of the pattern's
+/// length is a fault of the form at the place.
 pub fn opened(
     alloc: Global,
     place: Place,
@@ -80,7 +80,7 @@ fn try_all<'p>(place: &'p Place, count: usize, elements: &[Value]) -> Result<(),
     Ok(())
 }
 
-/// Checks each element of a value that is a set against a pattern.
+/// If the value is a set, checks each element against a pattern.
 pub(crate) fn try_set<'p>(place: &'p Place, count: usize, value: &Value) -> Result<(), FaultRef<'p>>
     ensures { GivesBy (λ u. tree_of value.now) result
         (tried_set place.now count (tree_of value.now)) }

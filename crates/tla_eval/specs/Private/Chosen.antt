@@ -1,4 +1,4 @@
--- What the code evaluates for one choice, and for all choices from values that are known.
+-- A body evaluated for one choice, and for all choices from known values.
 use Rattle.std.specs.Prelude.{◌++◌, List, Option, Some, None, Ok}
 use Rattle.tla_value.specs.Tree.{Tree}
 use Rattle.tla_value.specs.Choices.{choices}
@@ -9,7 +9,7 @@ use Rattle.tla_core.specs.Lists.{each}
 use Rattle.tla_core.specs.Meaning.{Meaning, Bound, Present, Next}
 use Rattle.tla_sets.specs.Domain.{function_rule}
 
--- the values of a body for all choices from some lists, and from values that are sets
+-- the values of a body for all choices from some lists, and from some sets
 abbrev pub values_for : Meaning → Bound → Present → Next → List (List Tree) → Outcome (List Tree)
 values_for e b s t lists = each (λ c. e.value (b ++ c) s t) (choices lists)
 

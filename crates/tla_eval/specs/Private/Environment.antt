@@ -1,4 +1,4 @@
--- What the code keeps of an environment: the values of the bound names and of the variables.
+-- An environment: the values of the bound names and of the variables.
 use Rattle.std.specs.Prelude.{[], ◌∷◌, ◌++◌, map, option_map}
 use Rattle.tla_value.specs.TreeOf.{tree_of}
 use Rattle.tla_core.specs.Meaning.{Bound, Present, Next}

@@ -1,4 +1,4 @@
--- What the code makes of what the parts of a form give.
+-- The rules of some forms, from the meanings of their parts.
 use Rattle.std.specs.Prelude.{ℕ, Bool, List, Option, Some, None, Ok}
 use Rattle.tla_value.specs.Tree.{Tree, text}
 use Rattle.tla_value.specs.Choices.{parts_of}
@@ -11,13 +11,13 @@ use Rattle.tla_operators.specs.Gives.{tuples_rule}
 use Rattle.tla_sets.specs.Elements.{stands_rule}
 use Rattle.tla_sets.specs.Fields.{records_rule}
 
--- whether there is an answer or a fault, and nothing more
+-- an outcome without its value
 abbrev pub nothing_of : {A : Type 0} → Outcome A → Outcome (Unit {0})
 nothing_of o = do
   x ← o
   Ok tt
 
--- what a test says of an element, if there is one
+-- the result of a test for an element, if there is one
 abbrev pub tested : (Tree → Outcome Bool) → Option Tree → Outcome (Option Bool)
 tested test None = Ok None
 tested test (Some v) = do
@@ -41,7 +41,7 @@ record_rule p fs b s t = do
   ps ← each (λ (f : List ℕ × Meaning). named_value f b s t) fs
   make_fun p ps
 
--- the tuples with one part of each set, and the records with each field in its set
+-- S \X T .., and [a : S, ..]
 abbrev pub product_rule : Place → List Meaning → Bound → Present → Next → Outcome Tree
 product_rule p ms b s t = do
   vs ← each (λ (m : Meaning). m.value b s t) ms

@@ -26,7 +26,7 @@ use tla_sets::elements::{
 };
 use tla_value::{SetValue, Value};
 
-/// Whether a body is TRUE of each element of a set.
+/// `\A x \in S : p`.
 #[cycle(evaluate)]
 pub(super) fn for_all<'c: 'a, 'a>(
     alloc: Global,
@@ -43,7 +43,7 @@ pub(super) fn for_all<'c: 'a, 'a>(
     Ok(Evaluated::truth(each_holds(alloc, place, body, &elements, env)?))
 }
 
-/// Whether a body is TRUE of some element of a set.
+/// `\E x \in S : p`.
 #[cycle(evaluate)]
 pub(super) fn for_some<'c: 'a, 'a>(
     alloc: Global,
@@ -60,7 +60,7 @@ pub(super) fn for_some<'c: 'a, 'a>(
     Ok(Evaluated::truth(some_holds(alloc, place, body, &elements, env)?))
 }
 
-/// The least element of a set of which a body is TRUE.
+/// `CHOOSE x \in S : p`: the least such element.
 #[cycle(evaluate)]
 pub(super) fn choose<'c: 'a, 'a>(
     alloc: Global,
@@ -77,7 +77,7 @@ pub(super) fn choose<'c: 'a, 'a>(
     Ok(Evaluated::Owned(first_passing(alloc, place, body, &elements, env)?))
 }
 
-/// The elements of a set. A range is not made.
+/// The elements of a set. A range is not built.
 #[cycle(evaluate)]
 pub(super) fn elements_in<'c: 'a, 'a>(
     alloc: Global,
@@ -99,7 +99,7 @@ pub(super) fn elements_in<'c: 'a, 'a>(
     }
 }
 
-/// Whether a body is TRUE of the element with a number.
+/// Whether a body is TRUE for the element at an index.
 #[cycle(evaluate)]
 fn holds_at<'e, 'c: 'a, 'a>(
     alloc: Global,
@@ -120,7 +120,7 @@ fn holds_at<'e, 'c: 'a, 'a>(
     ask_with(alloc, place, body, element.value(), env)
 }
 
-/// Whether a body is TRUE of each of these elements, up to the first of which it is not.
+/// Whether a body is TRUE for each of these elements. Stops at the first for which it is FALSE.
 #[cycle(evaluate)]
 fn each_holds<'e, 'c: 'a, 'a>(
     alloc: Global,
@@ -143,7 +143,7 @@ fn each_holds<'e, 'c: 'a, 'a>(
     Ok(true)
 }
 
-/// Whether a body is TRUE of some of these elements, up to the first of which it is.
+/// Whether a body is TRUE for one of these elements. Stops at the first for which it is.
 #[cycle(evaluate)]
 fn some_holds<'e, 'c: 'a, 'a>(
     alloc: Global,
@@ -166,7 +166,7 @@ fn some_holds<'e, 'c: 'a, 'a>(
     Ok(false)
 }
 
-/// The first of these elements of which a body is TRUE.
+/// The first of these elements for which a body is TRUE.
 #[cycle(evaluate)]
 fn first_passing<'e, 'c: 'a, 'a>(
     alloc: Global,
@@ -232,7 +232,7 @@ pub(super) fn value_with<'c: 'a, 'a>(
     body_value(alloc, body, inner)?.into_value(alloc)
 }
 
-/// The elements of a set of which a body is TRUE.
+/// `{x \in S : p}`.
 #[cycle(evaluate)]
 pub(super) fn filter<'c: 'a, 'a>(
     alloc: Global,
@@ -250,7 +250,7 @@ pub(super) fn filter<'c: 'a, 'a>(
     Ok(Evaluated::Owned(made_set(place, SetValue::from_values(alloc, kept))?))
 }
 
-/// Copies of those of these elements of which a body is TRUE.
+/// Copies of the elements for which a body is TRUE.
 #[cycle(evaluate)]
 fn passing<'e, 'c: 'a, 'a>(
     alloc: Global,

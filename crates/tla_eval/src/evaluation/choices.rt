@@ -1,33 +1,30 @@
 //! Forms that bind several names.
-ghost use Rattle.std.specs.Prelude.{◌≡◌, ◌++◌, ◌∷◌, [], length, map, option_map, slice_get};
+ghost use Rattle.std.specs.Prelude.{◌≡◌, ◌++◌, length, map};
 ghost use Rattle.tla_value.specs.TreeOf.{tree_of};
-ghost use Rattle.tla_value.specs.Choices.{choices};
 ghost use Rattle.tla_core.specs.Lists.{each};
 ghost use Rattle.tla_core.specs.Meaning.{Meaning};
 ghost use Rattle.tla_core.specs.Value.{means};
 ghost use Rattle.tla_core.specs.ExprOf.{expr_of, parts_of_cores};
 ghost use Rattle.tla_operators.specs.Gives.{Gives, GivesBy};
-ghost use Rattle.tla_eval.specs.Private.Chosen.{image_rule, chosen_function_rule, values_for, value_at, function_for_rule};
+ghost use Rattle.tla_eval.specs.Private.Chosen.{image_rule, chosen_function_rule, values_for, function_for_rule};
 ghost use Rattle.tla_eval.specs.Private.Parts.{nothing_of};
 ghost use Rattle.tla_operators.specs.Evaluated.{Evaluates, tree_of_evaluated};
 ghost use Rattle.tla_eval.specs.Private.Environment.{bound_in, present_in, next_in};
 ghost use Rattle.tla_operators.specs.Gathered.{Gathers};
 
 use crate::environment::{Environment, Frame};
-use crate::evaluation::binding::value_with;
 use crate::evaluation::evaluate;
 use crate::evaluation::patterns::body_value;
+use crate::odometer::Odometer;
 use std::alloc::Global;
 use tla_core::{Core, Place};
 use tla_operators::evaluated::Evaluated;
-use tla_operators::fault_ref::{FaultRef, memory};
+use tla_operators::fault_ref::FaultRef;
 use tla_operators::gathered::Gathered;
-use tla_sets::domain::{
-    Domain, choice_at, domain_of, function_on, function_with, lists_of, member_of,
-};
+use tla_sets::domain::{Domain, domain_of, function_on, function_with, lists_of};
 use tla_value::Value;
 
-/// The set of the values of a body for all choices from some sets.
+/// `{e : x \in S, ..}`: the set of the values of a body for all choices from some sets.
 #[cycle(evaluate)]
 pub(super) fn image<'c: 'a, 'a>(
     alloc: Global,
@@ -46,7 +43,7 @@ pub(super) fn image<'c: 'a, 'a>(
     Ok(Evaluated::Owned(values.into_set(alloc, place)?))
 }
 
-/// The function on all choices from some sets with the values of a body for them.
+/// `[x \in S, .. |-> e]`: the function that maps each choice from some sets to the value of a body.
 #[cycle(evaluate)]
 pub(super) fn function<'c: 'a, 'a>(
     alloc: Global,
@@ -68,7 +65,7 @@ pub(super) fn function<'c: 'a, 'a>(
     }
 }
 
-/// The function on the members of one set with the values of a body for them.
+/// The function that maps each member of one set to the value of a body.
 #[cycle(evaluate)]
 fn function_on_members<'s, 'c: 'a, 'a>(
     alloc: Global,
@@ -87,8 +84,8 @@ fn function_on_members<'s, 'c: 'a, 'a>(
     function_on(alloc, place, sets, values)
 }
 
-/// The function on the tuples of all choices from some sets with the values of a body for them. Where there are too many tuples,
-/// the body is only evaluated for them.
+/// The function that maps each tuple of several sets to the value of a body. If there are too many tuples, a fault of
+/// the body still comes first, so the body is evaluated for all of them.
 #[cycle(evaluate)]
 fn function_on_tuples<'s, 'c: 'a, 'a>(
     alloc: Global,
@@ -135,7 +132,7 @@ pub(super) fn evaluated_each<'c: 'a, 'a>(
     Ok(values)
 }
 
-/// How many choices the last of some lists has.
+/// The length of the last list.
 fn last_count(lists: &[&[Value]]) -> usize {
     match lists.last() {
         Some(list) => list.len(),
@@ -156,16 +153,14 @@ fn chosen<'l, 'c: 'a, 'a>(
         (next_in env.entry) (map (λ l. map tree_of l.now) lists.now)) }
 {
     let mut values = Vec::with_capacity(alloc, last_count(lists))?;
-    for number in 0..usize::MAX {
-        match value_for(alloc, body, lists, number, env)? {
-            Some(value) => values.push(value)?,
-            None => return Ok(values),
-        }
+    let mut odometer = Odometer::new(alloc, lists)?;
+    while let Some(choice) = odometer.next(alloc)? {
+        values.push(value_with_all(alloc, body, choice.as_slice(), env)?)?;
     }
-    Err(memory())
+    Ok(values)
 }
 
-/// The different values of a body for all choices from some lists.
+/// The distinct values of a body for all choices from some lists.
 #[cycle(evaluate)]
 fn chosen_once<'l, 'c: 'a, 'a>(
     alloc: Global,
@@ -178,13 +173,11 @@ fn chosen_once<'l, 'c: 'a, 'a>(
         (next_in env.entry) (map (λ l. map tree_of l.now) lists.now)) }
 {
     let mut values = Gathered::new(alloc);
-    for number in 0..usize::MAX {
-        match value_for(alloc, body, lists, number, env)? {
-            Some(value) => values.add(value)?,
-            None => return Ok(values),
-        }
+    let mut odometer = Odometer::new(alloc, lists)?;
+    while let Some(choice) = odometer.next(alloc)? {
+        values.add(value_with_all(alloc, body, choice.as_slice(), env)?)?;
     }
-    Err(memory())
+    Ok(values)
 }
 
 /// Evaluates a body for all choices from some lists, up to its first fault.
@@ -200,73 +193,11 @@ fn pass_over<'l, 'c: 'a, 'a>(
         (values_for (means (expr_of body.now)) (bound_in env.entry) (present_in env.entry)
         (next_in env.entry) (map (λ l. map tree_of l.now) lists.now))) }
 {
-    for number in 0..usize::MAX {
-        match value_for(alloc, body, lists, number, env)? {
-            Some(value) => drop(value),
-            None => return Ok(()),
-        }
+    let mut odometer = Odometer::new(alloc, lists)?;
+    while let Some(choice) = odometer.next(alloc)? {
+        drop(value_with_all(alloc, body, choice.as_slice(), env)?);
     }
-    Err(memory())
-}
-
-/// The value of a body for the choice with a number; none where there are fewer choices.
-#[cycle(evaluate)]
-fn value_for<'l, 'c: 'a, 'a>(
-    alloc: Global,
-    body: &'c Core,
-    lists: &'l [&'l [Value]],
-    number: usize,
-    env: Environment<'a>,
-) -> Result<Option<Value>, FaultRef<'c>>
-    ensures { GivesBy (λ o. option_map tree_of o) result
-        (value_at (means (expr_of body.now)) (bound_in env.entry) (present_in env.entry)
-        (next_in env.entry)
-        (slice_get (choices (map (λ l. map tree_of l.now) lists.now)) number)) }
-{
-    if lists.len() == 1 {
-        value_for_member(alloc, body, lists[0], number, env)
-    } else {
-        value_for_choice(alloc, body, lists, number, env)
-    }
-}
-
-/// The value of a body for the member of a list at a place.
-#[cycle(evaluate)]
-fn value_for_member<'l, 'c: 'a, 'a>(
-    alloc: Global,
-    body: &'c Core,
-    list: &'l [Value],
-    number: usize,
-    env: Environment<'a>,
-) -> Result<Option<Value>, FaultRef<'c>>
-    ensures { GivesBy (λ o. option_map tree_of o) result
-        (value_at (means (expr_of body.now)) (bound_in env.entry) (present_in env.entry)
-        (next_in env.entry) (slice_get (choices (map tree_of list.now ∷ [])) number)) }
-{
-    match member_of(list, number) {
-        Some(value) => Ok(Some(value_with(alloc, body, value, env)?)),
-        None => Ok(None),
-    }
-}
-
-/// The value of a body for the choice with a number from several lists.
-#[cycle(evaluate)]
-fn value_for_choice<'l, 'c: 'a, 'a>(
-    alloc: Global,
-    body: &'c Core,
-    lists: &'l [&'l [Value]],
-    number: usize,
-    env: Environment<'a>,
-) -> Result<Option<Value>, FaultRef<'c>>
-    ensures { GivesBy (λ o. option_map tree_of o) result
-        (value_at (means (expr_of body.now)) (bound_in env.entry) (present_in env.entry)
-        (next_in env.entry)
-        (slice_get (choices (map (λ l. map tree_of l.now) lists.now)) number)) }
-{
-    match choice_at(alloc, lists, number)? {
-        Some(choice) => Ok(Some(value_with_all(alloc, body, choice.as_slice(), env)?)),
-        None => Ok(None),
-    }
+    Ok(())
 }
 
 /// The value of a body with more bound values.

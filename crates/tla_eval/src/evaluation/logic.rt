@@ -16,7 +16,7 @@ use tla_operators::evaluated::Evaluated;
 use tla_operators::fault_ref::{FaultRef, fault_at};
 use tla_value::Value;
 
-/// Whether all parts are TRUE, up to the first that is not.
+/// Whether all parts are TRUE. Stops at the first that is FALSE.
 #[cycle(evaluate)]
 pub(super) fn conjunction<'c: 'a, 'a>(
     alloc: Global,
@@ -36,7 +36,7 @@ pub(super) fn conjunction<'c: 'a, 'a>(
     Ok(Evaluated::truth(true))
 }
 
-/// Whether some part is TRUE, up to the first that is.
+/// Whether some part is TRUE. Stops at the first that is.
 #[cycle(evaluate)]
 pub(super) fn disjunction<'c: 'a, 'a>(
     alloc: Global,
@@ -56,7 +56,7 @@ pub(super) fn disjunction<'c: 'a, 'a>(
     Ok(Evaluated::truth(false))
 }
 
-/// Whether the second part is TRUE where the first is.
+/// `p => q`: evaluates the second part only if the first is TRUE.
 #[cycle(evaluate)]
 pub(super) fn implies<'c: 'a, 'a>(
     alloc: Global,
@@ -76,7 +76,7 @@ pub(super) fn implies<'c: 'a, 'a>(
     }
 }
 
-/// TRUE if the condition is TRUE.
+/// TRUE if the condition is TRUE, a fault if it is FALSE.
 #[cycle(evaluate)]
 pub(super) fn assert<'c: 'a, 'a>(
     alloc: Global,
@@ -121,7 +121,7 @@ pub(super) fn cases<'c: 'a, 'a>(
     }
 }
 
-/// Whether the first arm whose condition is TRUE, or else OTHER, has a value as a member.
+/// Whether a value is a member of the first arm whose condition is TRUE, or else of OTHER.
 #[cycle(evaluate)]
 pub(super) fn cases_have<'c: 'a, 'a>(
     alloc: Global,

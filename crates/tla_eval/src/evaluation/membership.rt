@@ -75,7 +75,7 @@ pub(super) fn is_subset<'c: 'a, 'a>(
     Ok(Evaluated::truth(has_all(alloc, right, values, env)?))
 }
 
-/// Whether an expression has each of these values, up to the first that it has not.
+/// Whether each of these values is a member of an expression. Stops at the first that isn't.
 #[cycle(evaluate)]
 pub(super) fn has_all<'c: 'a, 'a>(
     alloc: Global,
@@ -96,7 +96,7 @@ pub(super) fn has_all<'c: 'a, 'a>(
     Ok(true)
 }
 
-/// Whether what an operator on two values gives has a value as a member. A range is not made.
+/// Whether a value is a member of the result of an operator. A range is not built.
 #[cycle(evaluate)]
 pub(super) fn two_hold<'c: 'a, 'a>(
     alloc: Global,
@@ -117,7 +117,7 @@ pub(super) fn two_hold<'c: 'a, 'a>(
     two_have(alloc, place, operator, left.value(), right.value(), value)
 }
 
-/// Whether a value is one of those of some parts, where their set is within the limits.
+/// Whether a value is a member of `{e, ..}`; a fault if that set exceeds the limits.
 #[cycle(evaluate)]
 pub(super) fn is_one_of<'c: 'a, 'a>(
     alloc: Global,
@@ -134,7 +134,7 @@ pub(super) fn is_one_of<'c: 'a, 'a>(
     set_has(alloc, place, values.as_slice(), value)
 }
 
-/// The members of one set and of another.
+/// `S \cup T`.
 #[cycle(evaluate)]
 pub(super) fn cup<'c: 'a, 'a>(
     alloc: Global,
@@ -152,7 +152,7 @@ pub(super) fn cup<'c: 'a, 'a>(
     Ok(Evaluated::Owned(union_of(alloc, place, left.value(), right.value())?))
 }
 
-/// The members of one set that are those of another.
+/// `S \cap T`.
 #[cycle(evaluate)]
 pub(super) fn cap<'c: 'a, 'a>(
     alloc: Global,
@@ -170,7 +170,7 @@ pub(super) fn cap<'c: 'a, 'a>(
     Ok(Evaluated::Owned(intersection_of(alloc, place, left.value(), right.value())?))
 }
 
-/// The members of one set that are no members of another.
+/// `S \ T`.
 #[cycle(evaluate)]
 pub(super) fn minus<'c: 'a, 'a>(
     alloc: Global,

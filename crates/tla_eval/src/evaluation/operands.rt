@@ -115,7 +115,7 @@ pub(super) fn field_of<'c: 'a, 'a>(
     field(alloc, place, name, base)
 }
 
-/// A part of a sequence.
+/// `SubSeq`.
 #[cycle(evaluate)]
 pub(super) fn part_of<'c: 'a, 'a>(
     alloc: Global,
@@ -175,7 +175,7 @@ fn named_values<'c: 'a, 'a>(
     Ok(pairs)
 }
 
-/// The set of the values of its parts.
+/// `{e, ..}`.
 #[cycle(evaluate)]
 pub(super) fn enumerated<'c: 'a, 'a>(
     alloc: Global,
@@ -191,7 +191,7 @@ pub(super) fn enumerated<'c: 'a, 'a>(
     Ok(Evaluated::Owned(made_set(place, SetValue::from_values(alloc, values))?))
 }
 
-/// The sequence of the values of its parts.
+/// `<<e, ..>>`.
 #[cycle(evaluate)]
 pub(super) fn tuple<'c: 'a, 'a>(
     alloc: Global,
@@ -207,7 +207,7 @@ pub(super) fn tuple<'c: 'a, 'a>(
     Ok(Evaluated::Owned(sequence_of(alloc, place, values)?))
 }
 
-/// The record of the values of its fields.
+/// `[a |-> e, ..]`.
 #[cycle(evaluate)]
 pub(super) fn record_of<'c: 'a, 'a>(
     alloc: Global,

@@ -14,8 +14,8 @@ use tla_core::{Core, Opening, Place};
 use tla_operators::evaluated::Evaluated;
 use tla_operators::fault_ref::FaultRef;
 
-/// The value of a body. If it opens elements, that is done here, because `evaluate` takes much stack and should be
-/// called only once for a form that binds names.
+/// The value of a body. A body that destructures elements is handled here, since `evaluate` needs much stack: so a form
+/// that binds names calls it only once.
 #[cycle(evaluate)]
 pub(super) fn body_value<'c: 'a, 'a>(
     alloc: Global,
@@ -31,7 +31,7 @@ pub(super) fn body_value<'c: 'a, 'a>(
     }
 }
 
-/// The value of a body under the items of elements.
+/// The value of a body under the items of destructured elements.
 #[cycle(evaluate)]
 pub(super) fn opened<'c: 'a, 'a>(
     alloc: Global,
@@ -48,7 +48,7 @@ pub(super) fn opened<'c: 'a, 'a>(
     Ok(Evaluated::Owned(value_with_all(alloc, body, items.as_slice(), env)?))
 }
 
-/// A set, each of whose elements is checked against a pattern.
+/// A set, after each of its elements was checked against a pattern.
 #[cycle(evaluate)]
 pub(super) fn tried<'c: 'a, 'a>(
     alloc: Global,

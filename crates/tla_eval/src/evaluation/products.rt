@@ -24,7 +24,7 @@ use tla_operators::sets::tuples_with;
 use tla_sets::fields::{field_in, has_just, records_with};
 use tla_value::{FunValue, Text, Value};
 
-/// The records with each field in its set.
+/// `[a : S, ..]`.
 #[cycle(evaluate)]
 pub(super) fn records<'c: 'a, 'a>(
     alloc: Global,
@@ -59,7 +59,7 @@ fn field_sets<'c: 'a, 'a>(
     Ok(values)
 }
 
-/// The tuples with one part of each set.
+/// `S \X T ..`.
 #[cycle(evaluate)]
 pub(super) fn product<'c: 'a, 'a>(
     alloc: Global,
@@ -75,7 +75,7 @@ pub(super) fn product<'c: 'a, 'a>(
     Ok(Evaluated::Owned(tuples_with(alloc, place, sets.as_slice())?))
 }
 
-/// Whether a value is a record with just these fields, each a member of the field's expression.
+/// Whether a value is a record with exactly these fields, each value a member of the field's expression.
 #[cycle(evaluate)]
 pub(super) fn is_record_of<'c: 'a, 'a>(
     alloc: Global,
@@ -100,7 +100,7 @@ pub(super) fn is_record_of<'c: 'a, 'a>(
     }
 }
 
-/// Whether the expression of each field has the value of that field, up to the first that has it not.
+/// Whether the value of each field is a member of the field's expression. Stops at the first that isn't.
 #[cycle(evaluate)]
 fn fields_have<'c: 'a, 'a>(
     alloc: Global,
@@ -126,7 +126,7 @@ fn fields_have<'c: 'a, 'a>(
     Ok(true)
 }
 
-/// Whether a value is a tuple with each part a member of the expression at its place.
+/// Whether a value is a tuple, each item a member of the expression with the same index.
 #[cycle(evaluate)]
 pub(super) fn is_tuple_of<'c: 'a, 'a>(
     alloc: Global,
@@ -151,7 +151,7 @@ pub(super) fn is_tuple_of<'c: 'a, 'a>(
     }
 }
 
-/// Whether each of these expressions has the value at its place, up to the first that has it not.
+/// Whether each item is a member of the expression with the same index. Stops at the first that isn't.
 #[cycle(evaluate)]
 fn parts_have<'c: 'a, 'a>(
     alloc: Global,

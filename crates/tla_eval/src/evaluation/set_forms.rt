@@ -23,7 +23,7 @@ use tla_operators::sequences::sequence_items;
 use tla_operators::sets::{functions_between, has_domain, if_set, members, subsets_of};
 use tla_value::Value;
 
-/// All subsets of a set.
+/// `SUBSET S`.
 #[cycle(evaluate)]
 pub(super) fn power<'c: 'a, 'a>(
     alloc: Global,
@@ -39,7 +39,7 @@ pub(super) fn power<'c: 'a, 'a>(
     Ok(Evaluated::Owned(subsets_of(alloc, place, set.value())?))
 }
 
-/// The functions on one set with values in another.
+/// `[S -> T]`.
 #[cycle(evaluate)]
 pub(super) fn functions<'c: 'a, 'a>(
     alloc: Global,
@@ -57,7 +57,7 @@ pub(super) fn functions<'c: 'a, 'a>(
     Ok(Evaluated::Owned(functions_between(alloc, place, domain.value(), range.value())?))
 }
 
-/// Whether a value is a set of members of an expression.
+/// Membership in `SUBSET S`: whether a value is a set of members of an expression.
 #[cycle(evaluate)]
 pub(super) fn is_set_within<'c: 'a, 'a>(
     alloc: Global,
@@ -75,7 +75,7 @@ pub(super) fn is_set_within<'c: 'a, 'a>(
     }
 }
 
-/// Whether a value is a sequence of members of an expression.
+/// Membership in `Seq(S)`: whether a value is a sequence of members of an expression.
 #[cycle(evaluate)]
 pub(super) fn is_sequence_of<'c: 'a, 'a>(
     alloc: Global,
@@ -93,7 +93,7 @@ pub(super) fn is_sequence_of<'c: 'a, 'a>(
     }
 }
 
-/// Whether a value is a function on a set with values in an expression.
+/// Membership in `[S -> T]`: whether a value is a function on a set with values in an expression.
 #[cycle(evaluate)]
 pub(super) fn is_function_into<'c: 'a, 'a>(
     alloc: Global,

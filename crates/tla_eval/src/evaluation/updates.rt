@@ -17,7 +17,7 @@ use tla_operators::fault_ref::FaultRef;
 use tla_operators::functions::{into_function, made_fun};
 use tla_value::Value;
 
-/// A function with other values: each update on the result of the one before.
+/// `[f EXCEPT !p = e, ..]`: applies each update to the result of the one before.
 #[cycle(evaluate)]
 pub(super) fn except<'c: 'a, 'a>(
     alloc: Global,
@@ -55,7 +55,7 @@ fn updated_by_all<'c: 'a, 'a>(
     Ok(value)
 }
 
-/// A value with another one along a path.
+/// A value with the one at the end of a path replaced.
 #[cycle(evaluate)]
 fn updated<'c: 'a, 'a>(
     alloc: Global,
@@ -76,7 +76,7 @@ fn updated<'c: 'a, 'a>(
     }
 }
 
-/// A value with another one along a path of one key and others. Where the key is outside the domain nothing changes.
+/// The same for a path of `key` and then `rest`. A key outside the domain changes nothing.
 #[cycle(evaluate)]
 fn updated_at<'c: 'a, 'a>(
     alloc: Global,

@@ -13,7 +13,7 @@ use Rattle.tla_core.specs.declared.fault.Place.{Place}
 use Rattle.tla_core.specs.declared.fault.Fault.{Fault}
 use Rattle.tla_operators.specs.Gives.{Gives, GivesBy, GivesTruth, contains_rule}
 use Rattle.tla_eval.specs.Private.Parts.{record_rule, product_rule, record_set_rule, tested, one_of_rule}
-use Rattle.tla_eval.specs.Private.Chosen.{image_rule, chosen_function_rule, values_for, value_at}
+use Rattle.tla_eval.specs.Private.Chosen.{image_rule, chosen_function_rule, values_for}
 use Rattle.tla_sets.specs.Domain.{function_rule, AreForChoices, IsDomain}
 use Rattle.tla_eval.specs.declared.environment.Environment.{Environment}
 use Rattle.tla_operators.specs.declared.evaluated.Evaluated.{Evaluated}
@@ -24,11 +24,12 @@ use Rattle.tla_core.specs.declared.expression.Core.{Core}
 use Rattle.tla_value.specs.declared.value.Value.{Value}
 use Rattle.tla_operators.specs.Evaluated.{Evaluates, tree_of_evaluated}
 use Rattle.tla_eval.specs.Private.Environment.{bound_in, present_in, next_in}
+use Rattle.tla_eval.specs.Private.Wheels.{left_of}
 use Rattle.std.specs.Prelude.{slice_get}
 use Rattle.tla_core.proofs.Loops.{all_hold_step}
 use Rattle.tla_eval.proofs.Collected.{record_is}
 use Rattle.tla_eval.proofs.Asked.{conjunction_told, disjunction_told, function_into}
-use Rattle.tla_eval.proofs.Choices.{image_is, image_step, function_is, one_choice, value_here, value_more, value_first, value_end, pass_more, pass_first, pass_end, for_choices, function_of_values, function_first, function_passed}
+use Rattle.tla_eval.proofs.Choices.{image_is, image_step, function_is, taken_more, passed_more, for_choices, function_of_values, function_first, function_passed}
 use Rattle.tla_sets.proofs.Chosen.{trees_in}
 use Rattle.tla_eval.proofs.Tested.{two_gone, two_asked, tested_told, all_more, all_stop, all_first, all_end, some_more, some_stop, some_first, some_end, least_more, least_stop, least_first, least_end, kept_more, kept_first, kept_end, one_of_is}
 use Rattle.tla_operators.proofs.Different.{more_none}
@@ -53,7 +54,7 @@ evaluate_other-returns-in-Disjunction t c =
     let e = means_disjunction c.args.core.now n.place n.parts n.is ∙ ap (λ us. means-disjunction n.place (parts_of_cores us)) (sym c.deref-in-Disjunction.ensures.value) in
     subst (λ (m : Meaning). Evaluates c.disjunction.result (m.value (bound_in c.args.env) (present_in c.args.env) (next_in c.args.env))) (sym e) c.disjunction.ensures
 
--- whether a body is TRUE of an element
+-- whether a body is TRUE for an element
 abbrev body_of : Place → Core → Environment → Tree → Outcome Bool
 body_of p body env v = asks p (means (expr_of body)) (bound_in env ++ v ∷ []) (present_in env) (next_in env)
 
@@ -345,113 +346,29 @@ choices::function_on_tuples-returns t c =
     function_passed p m (bound_in c.args.env) (present_in c.args.env) (next_in c.args.env) vs lists are c.in_ok-pass_over-in-Refused.field-0 c.in-Refused.fault c.in_ok-pass_over-in-Refused.ensures
     (subst (IsDomain p vs) c.in-Refused.is c.in_ok-tuples.ensures)
 
-pub choices::chosen-loop-number-preserved : goal.choices::chosen-loop-number-preserved
-choices::chosen-loop-number-preserved t c =
-    let m = means (expr_of c.args.body.now) in
-    let v = c.in-Some.value in
-    c.loop-number.invariant
-    ∙ value_more m (bound_in c.args.env) (present_in c.args.env) (next_in c.args.env) (choices (trees_in c.args.lists.now)) c.loop-number.number (map tree_of c.loop-number.values.items) (tree_of v) (map tree_of c.push.new.self.items)
-    (c.in_ok-value.ensures ∙ ap (λ (o : Option Value). Ok (option_map tree_of o)) c.in-Some.is) (ap (map tree_of) c.in_ok-push-in-Some.ensures.items ∙ map-append tree_of c.loop-number.values.items (v ∷ []))
-
-pub choices::chosen-returns-in_err-value : goal.choices::chosen-returns-in_err-value
-choices::chosen-returns-in_err-value t c =
-    let m = means (expr_of c.args.body.now) in
-    let e = c.loop-number.invariant ∙ value_first m (bound_in c.args.env) (present_in c.args.env) (next_in c.args.env) (choices (trees_in c.args.lists.now)) c.loop-number.number (map tree_of c.loop-number.values.items) in
-    subst (λ (o : Outcome (List Tree)). GivesBy (λ (v : Vec Value Global). map tree_of v.items) c.from_residual-in_err-value.result o) (sym e) (search rules)
-
-pub choices::chosen-returns-in-None : goal.choices::chosen-returns-in-None
-choices::chosen-returns-in-None t c =
-    let m = means (expr_of c.args.body.now) in
-    c.loop-number.invariant
-    ∙ value_end m (bound_in c.args.env) (present_in c.args.env) (next_in c.args.env) (choices (trees_in c.args.lists.now)) c.loop-number.number (map tree_of c.loop-number.values.items)
-    (c.in_ok-value.ensures ∙ ap (λ (o : Option Value). Ok (option_map tree_of o)) c.in-None.is)
-
-pub choices::chosen_once-loop-number-init : goal.choices::chosen_once-loop-number-init
-choices::chosen_once-loop-number-init t c = ([], c.new-values.ensures, more_none _)
-
-pub choices::chosen_once-loop-number-preserved : goal.choices::chosen_once-loop-number-preserved
-choices::chosen_once-loop-number-preserved t c =
-    let m = means (expr_of c.args.body.now) in
-    let v = tree_of c.in-Some.value in
-    let kept = c.loop-number.invariant.0 in (
+pub choices::chosen_once-loop-odometer-preserved : goal.choices::chosen_once-loop-odometer-preserved
+choices::chosen_once-loop-odometer-preserved t c =
+    let f : List Tree → Outcome Tree = λ d. (means (expr_of c.args.body.now)).value (bound_in c.args.env ++ d) (present_in c.args.env) (next_in c.args.env) in
+    let kept = c.loop-odometer.invariant.1 in
+    let v = tree_of c.in_ok-value_with_all.field-0 in
+    let choice = map tree_of c.as_slice.result.now in
+    let at = sym c.in_ok-choice.ensures.choice ∙ ap (option_map (λ (w : Vec Value Global). map tree_of w.items)) c.in-Some.is ∙ ap (λ us. Some (map tree_of us)) (sym c.as_slice.ensures.value) in (
+      c.in_ok-choice.ensures.ready,
       kept ++ v ∷ [],
-      c.in_ok-add-in-Some.ensures.ok kept c.loop-number.invariant.1,
-      c.loop-number.invariant.2
-          ∙ value_more m (bound_in c.args.env) (present_in c.args.env) (next_in c.args.env) (choices (trees_in c.args.lists.now)) c.loop-number.number kept v (kept ++ v ∷ [])
-          (c.in_ok-value.ensures ∙ ap (λ (o : Option Value). Ok (option_map tree_of o)) c.in-Some.is) refl,
+      c.in_ok-add.ensures.ok kept c.loop-odometer.invariant.2,
+      c.loop-odometer.invariant.3
+          ∙ taken_more f (left_of c.loop-odometer.odometer) kept choice v (kept ++ v ∷ []) (left_of c.next.new.self) at c.in_ok-value_with_all.ensures refl c.in_ok-choice.ensures.rest,
     )
 
-pub choices::chosen_once-returns-in_err-value : goal.choices::chosen_once-returns-in_err-value
-choices::chosen_once-returns-in_err-value t c =
-    let m = means (expr_of c.args.body.now) in
-    let e = c.loop-number.invariant.2 ∙ value_first m (bound_in c.args.env) (present_in c.args.env) (next_in c.args.env) (choices (trees_in c.args.lists.now)) c.loop-number.number c.loop-number.invariant.0 in
-    subst (λ (o : Outcome (List Tree)). Gathers c.from_residual.result o) (sym e) (search rules)
-
-pub choices::chosen_once-returns-in-None : goal.choices::chosen_once-returns-in-None
-choices::chosen_once-returns-in-None t c =
-    let m = means (expr_of c.args.body.now) in
-    let kept = c.loop-number.invariant.0 in (
-      kept,
-      c.loop-number.invariant.2
-          ∙ value_end m (bound_in c.args.env) (present_in c.args.env) (next_in c.args.env) (choices (trees_in c.args.lists.now)) c.loop-number.number kept
-          (c.in_ok-value.ensures ∙ ap (λ (o : Option Value). Ok (option_map tree_of o)) c.in-None.is),
-      c.loop-number.invariant.1,
+pub choices::pass_over-loop-odometer-preserved : goal.choices::pass_over-loop-odometer-preserved
+choices::pass_over-loop-odometer-preserved t c =
+    let f : List Tree → Outcome Tree = λ d. (means (expr_of c.args.body.now)).value (bound_in c.args.env ++ d) (present_in c.args.env) (next_in c.args.env) in
+    let choice = map tree_of c.as_slice.result.now in
+    let at = sym c.in_ok-choice.ensures.choice ∙ ap (option_map (λ (w : Vec Value Global). map tree_of w.items)) c.in-Some.is ∙ ap (λ us. Some (map tree_of us)) (sym c.as_slice.ensures.value) in (
+      c.in_ok-choice.ensures.ready,
+      c.loop-odometer.invariant.1
+          ∙ passed_more f (left_of c.loop-odometer.odometer) choice (tree_of c.in_ok-value_with_all.field-0) (left_of c.next.new.self) at c.in_ok-value_with_all.ensures c.in_ok-choice.ensures.rest,
     )
-
-pub choices::pass_over-loop-number-preserved : goal.choices::pass_over-loop-number-preserved
-choices::pass_over-loop-number-preserved t c =
-    let m = means (expr_of c.args.body.now) in
-    c.loop-number.invariant
-    ∙ pass_more m (bound_in c.args.env) (present_in c.args.env) (next_in c.args.env) (choices (trees_in c.args.lists.now)) c.loop-number.number (tree_of c.in-Some.value)
-    (c.in_ok-value.ensures ∙ ap (λ (o : Option Value). Ok (option_map tree_of o)) c.in-Some.is)
-
-pub choices::pass_over-returns-in_err-value : goal.choices::pass_over-returns-in_err-value
-choices::pass_over-returns-in_err-value t c =
-    let m = means (expr_of c.args.body.now) in
-    let e = c.loop-number.invariant ∙ pass_first m (bound_in c.args.env) (present_in c.args.env) (next_in c.args.env) (choices (trees_in c.args.lists.now)) c.loop-number.number in
-    subst (λ (o : Outcome (Unit {0})). GivesBy (λ (u : Unit {0}). u) c.from_residual.result o) (sym e) (search rules)
-
-pub choices::pass_over-returns-in-None : goal.choices::pass_over-returns-in-None
-choices::pass_over-returns-in-None t c =
-    let m = means (expr_of c.args.body.now) in
-    c.loop-number.invariant
-    ∙ pass_end m (bound_in c.args.env) (present_in c.args.env) (next_in c.args.env) (choices (trees_in c.args.lists.now)) c.loop-number.number
-    (c.in_ok-value.ensures ∙ ap (λ (o : Option Value). Ok (option_map tree_of o)) c.in-None.is)
-
-pub choices::value_for_member-returns-in_ok-value_with-in-Some : goal.choices::value_for_member-returns-in_ok-value_with-in-Some
-choices::value_for_member-returns-in_ok-value_with-in-Some t c =
-    let m = means (expr_of c.args.body.now) in
-    let at = one_choice (map tree_of c.args.list.now) c.args.number ∙ ap (option_map (λ (x : Tree). x ∷ [])) (sym c.member_of.ensures ∙ ap (option_map (λ (v : Bor Value). tree_of v.now)) c.in-Some.is) in
-    value_here m (bound_in c.args.env) (present_in c.args.env) (next_in c.args.env) _ (tree_of c.in-Some.value.now ∷ []) (tree_of c.in_ok-value_with-in-Some.field-0) at c.in_ok-value_with-in-Some.ensures
-
-pub choices::value_for_member-returns-in_err-value_with-in-Some : goal.choices::value_for_member-returns-in_err-value_with-in-Some
-choices::value_for_member-returns-in_err-value_with-in-Some t c =
-    let m = means (expr_of c.args.body.now) in
-    let at = one_choice (map tree_of c.args.list.now) c.args.number ∙ ap (option_map (λ (x : Tree). x ∷ [])) (sym c.member_of.ensures ∙ ap (option_map (λ (v : Bor Value). tree_of v.now)) c.in-Some.is) in
-    subst (λ (o : Outcome (Option Tree)). GivesBy (λ (v : Option Value). option_map tree_of v) c.from_residual.result o) (sym (ap (λ (o : Option (List Tree)). value_at m (bound_in c.args.env) (present_in c.args.env) (next_in c.args.env) o) at)) (search rules)
-
-pub choices::value_for_member-returns-in-None : goal.choices::value_for_member-returns-in-None
-choices::value_for_member-returns-in-None t c =
-    let m = means (expr_of c.args.body.now) in
-    let at = one_choice (map tree_of c.args.list.now) c.args.number ∙ ap (option_map (λ (x : Tree). x ∷ [])) (sym c.member_of.ensures ∙ ap (option_map (λ (v : Bor Value). tree_of v.now)) c.in-None.is) in
-    ap (λ (o : Option (List Tree)). value_at m (bound_in c.args.env) (present_in c.args.env) (next_in c.args.env) o) at
-
-pub choices::value_for_choice-returns-in_ok-value_with_all-in-Some : goal.choices::value_for_choice-returns-in_ok-value_with_all-in-Some
-choices::value_for_choice-returns-in_ok-value_with_all-in-Some t c =
-    let m = means (expr_of c.args.body.now) in
-    let at = sym c.in_ok-choice.ensures.ok ∙ ap (option_map (λ (v : Vec Value Global). map tree_of v.items)) c.in-Some.is ∙ ap (λ us. Some (map tree_of us)) (sym c.as_slice.ensures.value) in
-    value_here m (bound_in c.args.env) (present_in c.args.env) (next_in c.args.env) _ (map tree_of c.as_slice.result.now) (tree_of c.in_ok-value_with_all-in-Some.field-0) at c.in_ok-value_with_all-in-Some.ensures
-
-pub choices::value_for_choice-returns-in_err-value_with_all-in-Some : goal.choices::value_for_choice-returns-in_err-value_with_all-in-Some
-choices::value_for_choice-returns-in_err-value_with_all-in-Some t c =
-    let m = means (expr_of c.args.body.now) in
-    let at = sym c.in_ok-choice.ensures.ok ∙ ap (option_map (λ (v : Vec Value Global). map tree_of v.items)) c.in-Some.is ∙ ap (λ us. Some (map tree_of us)) (sym c.as_slice.ensures.value) in
-    subst (λ (o : Outcome (Option Tree)). GivesBy (λ (v : Option Value). option_map tree_of v) c.from_residual-in_err-value_with_all-in-Some.result o) (sym (ap (λ (o : Option (List Tree)). value_at m (bound_in c.args.env) (present_in c.args.env) (next_in c.args.env) o) at)) (search rules)
-
-pub choices::value_for_choice-returns-in-None : goal.choices::value_for_choice-returns-in-None
-choices::value_for_choice-returns-in-None t c =
-    let m = means (expr_of c.args.body.now) in
-    ap (λ (o : Option (List Tree)). value_at m (bound_in c.args.env) (present_in c.args.env) (next_in c.args.env) o) (sym c.in_ok-choice.ensures.ok ∙ ap (option_map (λ (v : Vec Value Global). map tree_of v.items)) c.in-None.is)
 
 pub products::records-records_with-requires : goal.products::records-records_with-requires
 products::records-records_with-requires t c =

@@ -15,11 +15,12 @@ use Rattle.tla_core.specs.Value.{means, mem}
 use Rattle.tla_core.specs.ExprOf.{expr_of, parts_of_cores, fields_of_cores, arms_of_cores, updates_of_cores}
 use Rattle.tla_operators.specs.Evaluated.{tree_of_evaluated}
 use Rattle.tla_eval.specs.Private.Environment.{bound_in, present_in, next_in}
+use Rattle.tla_eval.specs.Private.Wheels.{IsReady, left_of}
 use Rattle.tla_sets.specs.Elements.{elements_of}
 use Rattle.tla_core.specs.declared.expression.Core.{Core, size-Core}
 use Rattle.tla_eval.proofs.evaluation.+evaluate.Given as goal
 
--- ---- how deep what is left is, and then which function comes before which
+-- ---- the measure: the depth of the rest, then an order of the functions
 abbrev size_of_other : Option (Bor Core) → ℕ
 size_of_other None = 0
 size_of_other (Some core) = size-Core core.now
@@ -193,19 +194,10 @@ decreases-choices::chosen_once l = 2 ^ 66 * size-Core l.body.now + 10
 abbrev pub decreases-choices::pass_over : goal.decreases-choices::pass_over
 decreases-choices::pass_over l = 2 ^ 66 * size-Core l.body.now + 10
 
-abbrev pub decreases-choices::value_for : goal.decreases-choices::value_for
-decreases-choices::value_for l = 2 ^ 66 * size-Core l.body.now + 9
-
-abbrev pub decreases-choices::value_for_member : goal.decreases-choices::value_for_member
-decreases-choices::value_for_member l = 2 ^ 66 * size-Core l.body.now + 8
-
-abbrev pub decreases-choices::value_for_choice : goal.decreases-choices::value_for_choice
-decreases-choices::value_for_choice l = 2 ^ 66 * size-Core l.body.now + 8
-
 abbrev pub decreases-choices::value_with_all : goal.decreases-choices::value_with_all
 decreases-choices::value_with_all l = 2 ^ 66 * size-Core l.body.now + 7
 
--- updates: then how many keys are left
+-- updates: then the number of keys left
 abbrev pub decreases-updates::except : goal.decreases-updates::except
 decreases-updates::except l = 2 ^ 66 * max (size-Core l.base.now) (goal.size-updates::except l) + 2 ^ 65 + 10
 
@@ -256,7 +248,7 @@ decreases-products::is_tuple_of l = 2 ^ 66 * goal.size-products::is_tuple_of l +
 abbrev pub decreases-products::parts_have : goal.decreases-products::parts_have
 decreases-products::parts_have l = 2 ^ 66 * goal.size-products::parts_have l + 8
 
--- ---- what is left of a list decides
+-- ---- the rest of a list decides
 abbrev pub invariant-products::field_sets-loop-field : goal.invariant-products::field_sets-loop-field
 invariant-products::field_sets-loop-field l =
     each (λ (m : Meaning). m.value (bound_in l.env) (present_in l.env) (next_in l.env)) (parts_of (fields_of_cores l.fields))
@@ -282,23 +274,32 @@ invariant-choices::evaluated_each-loop-core l =
     each (λ (m : Meaning). m.value (bound_in l.env) (present_in l.env) (next_in l.env)) (parts_of_cores l.cores)
     ≡ (each (λ (m : Meaning). m.value (bound_in l.env) (present_in l.env) (next_in l.env)) (parts_of_cores (drop l.core-index l.cores)) >>= λ ys. Ok (map tree_of_evaluated l.values.items ++ ys))
 
-abbrev pub invariant-choices::chosen-loop-number : goal.invariant-choices::chosen-loop-number
-invariant-choices::chosen-loop-number l =
+abbrev pub invariant-choices::chosen-loop-odometer : goal.invariant-choices::chosen-loop-odometer
+invariant-choices::chosen-loop-odometer l =
     let f : List Tree → Outcome Tree = λ c. (means (expr_of l.body)).value (bound_in l.env ++ c) (present_in l.env) (next_in l.env) in
     let all = choices (map (λ (r : Bor (List Value)). map tree_of r.now) l.lists) in
-    each f all ≡ then_more (map tree_of l.values.items) (each f (drop l.number all))
+    IsReady l.odometer × (each f all ≡ then_more (map tree_of l.values.items) (each f (left_of l.odometer)))
 
-abbrev pub invariant-choices::chosen_once-loop-number : goal.invariant-choices::chosen_once-loop-number
-invariant-choices::chosen_once-loop-number l =
-    let f : List Tree → Outcome Tree = λ c. (means (expr_of l.body)).value (bound_in l.env ++ c) (present_in l.env) (next_in l.env) in
-    let all = choices (map (λ (r : Bor (List Value)). map tree_of r.now) l.lists) in
-    (kept : List Tree) × IsGathered kept l.values × (each f all ≡ then_more kept (each f (drop l.number all)))
+abbrev pub decreases-choices::chosen-loop-odometer : goal.decreases-choices::chosen-loop-odometer
+decreases-choices::chosen-loop-odometer l = length (left_of l.odometer)
 
-abbrev pub invariant-choices::pass_over-loop-number : goal.invariant-choices::pass_over-loop-number
-invariant-choices::pass_over-loop-number l =
+abbrev pub invariant-choices::chosen_once-loop-odometer : goal.invariant-choices::chosen_once-loop-odometer
+invariant-choices::chosen_once-loop-odometer l =
     let f : List Tree → Outcome Tree = λ c. (means (expr_of l.body)).value (bound_in l.env ++ c) (present_in l.env) (next_in l.env) in
     let all = choices (map (λ (r : Bor (List Value)). map tree_of r.now) l.lists) in
-    nothing_of (each f all) ≡ nothing_of (each f (drop l.number all))
+    IsReady l.odometer × (kept : List Tree) × IsGathered kept l.values × (each f all ≡ then_more kept (each f (left_of l.odometer)))
+
+abbrev pub decreases-choices::chosen_once-loop-odometer : goal.decreases-choices::chosen_once-loop-odometer
+decreases-choices::chosen_once-loop-odometer l = length (left_of l.odometer)
+
+abbrev pub invariant-choices::pass_over-loop-odometer : goal.invariant-choices::pass_over-loop-odometer
+invariant-choices::pass_over-loop-odometer l =
+    let f : List Tree → Outcome Tree = λ c. (means (expr_of l.body)).value (bound_in l.env ++ c) (present_in l.env) (next_in l.env) in
+    let all = choices (map (λ (r : Bor (List Value)). map tree_of r.now) l.lists) in
+    IsReady l.odometer × (nothing_of (each f all) ≡ nothing_of (each f (left_of l.odometer)))
+
+abbrev pub decreases-choices::pass_over-loop-odometer : goal.decreases-choices::pass_over-loop-odometer
+decreases-choices::pass_over-loop-odometer l = length (left_of l.odometer)
 
 abbrev pub invariant-updates::updated_by_all-loop-update : goal.invariant-updates::updated_by_all-loop-update
 invariant-updates::updated_by_all-loop-update l =

@@ -5,7 +5,7 @@ use Rattle.tla_core.specs.Patterns.{opened_items}
 use Rattle.tla_eval.specs.Private.Environment.{bound_of}
 use Rattle.tla_eval.proofs.patterns.open_items.Given as goal
 
--- what is left, after what is there
+-- the rest, after the part that is done
 abbrev pub invariant-loop-opening : goal.invariant-loop-opening
 invariant-loop-opening l =
     opened_items l.place l.openings (bound_of l.frame)
