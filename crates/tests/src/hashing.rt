@@ -2,7 +2,7 @@
 
 use std::hash::Hasher;
 
-/// A hasher that gives each state the hash 0.
+/// A hasher whose hash is always 0.
 #[derive(Clone, Copy, Default)]
 pub struct Zero;
 

@@ -1,7 +1,7 @@
-//! Tests of the public calls of the libraries: what no clause says, and no report of `acceptance`.
+//! Tests of the public calls of the libraries, for what neither a contract nor a report of `acceptance` covers.
 //!
-//! They are in one crate of their own, above all libraries: a crate with tests is proved a second time, and what two
-//! crates of tests share would be proved in each.
+//! They are in one crate above all libraries: a crate with tests is proved a second time, and what two crates of tests
+//! share would be proved in each.
 #![tactic(auto)]
 
 #[cfg(test)]

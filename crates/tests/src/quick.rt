@@ -1,4 +1,4 @@
-//! Expressions that are evaluated quickly: what their definitions keep, and that it is kept.
+//! Quick evaluation: the values of definitions are found, and are reused.
 
 use std::alloc::Global;
 use tla_core::Core;
@@ -10,8 +10,8 @@ use tla_parse::parse_module;
 use tla_quick::Expression;
 use tla_value::{State, Value};
 
-/// Each invariant is TRUE where x is 2. Without a definition that is evaluated once, each of the last two takes longer
-/// than a test may: it has a set of 1,000 members inside a million choices.
+/// Each invariant is TRUE if x is 2. Without a definition that is evaluated once, each of the last two takes too long
+/// for a test: it builds a set of 1,000 members for each of a million choices.
 static MODULE: &str = "---- MODULE M ----
 EXTENDS Integers
 VARIABLE x
@@ -45,7 +45,7 @@ fn state(alloc: Global) -> Option<State> {
     Some(State::new(values))
 }
 
-/// Whether an expression is found to be TRUE in a state.
+/// Whether an expression is found to be TRUE at a state.
 fn is_true(alloc: Global, core: &Core, state: &State) -> bool {
     let Ok(expression) = Expression::new(alloc, core, 0) else {
         return false;

@@ -1,5 +1,5 @@
-//! The command line, the input files, reports, signs of life, and whole runs: words and files of memory in, bytes and a
-//! status out.
+//! The command line, the input files, reports, progress lines, and whole runs: words and files in memory in, bytes and
+//! a status out.
 
 mod codes;
 mod graph;

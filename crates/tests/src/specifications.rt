@@ -1,4 +1,4 @@
-//! Specifications, and how their checks end. The reports were worked out by hand.
+//! Specifications, with the reports of their checks, which were worked out by hand.
 
 /// A module, its configuration, and the status and the report of its check.
 #[derive(Clone, Copy)]
@@ -82,7 +82,7 @@ Levels 7, states 14.
 ",
 };
 
-/// Two processes, as they were translated, and an invariant that both together break.
+/// Two processes, translated from PlusCal, and an invariant that both together violate.
 pub const TWO: Specification = Specification {
     module: "---- MODULE Two ----
 EXTENDS Integers
@@ -149,7 +149,7 @@ State 1:
 Levels 1, states 10.
 ";
 
-/// Ten states on one level, of which two are bad.
+/// Ten states on one level, two of which violate the invariant.
 pub const TWO_BAD: Specification = Specification {
     module: "---- MODULE M ----
 EXTENDS Integers
@@ -164,7 +164,7 @@ Inv == x \\notin {2, 9}
     report: LEAST_BAD,
 };
 
-/// Ten states on one level, of which eight are bad.
+/// Ten states on one level, eight of which violate the invariant.
 pub const EIGHT_BAD: Specification = Specification {
     module: "---- MODULE M ----
 EXTENDS Integers
@@ -179,7 +179,7 @@ Inv == x < 2
     report: LEAST_BAD,
 };
 
-/// Ten states on one level, of which none is bad.
+/// Ten states on one level, none of which violates the invariant.
 pub const NONE_BAD: Specification = Specification {
     module: "---- MODULE M ----
 EXTENDS Integers

@@ -1,4 +1,4 @@
-//! The lists of the successors of a state.
+//! Lists of the successors of a state.
 ghost use Rattle.std.specs.Prelude.{◌≡◌, length, IfOk};
 
 use std::alloc::{AllocError, Global};
@@ -9,7 +9,7 @@ use tla_model::Model;
 use tla_parse::parse_module;
 use tla_value::{State, Value};
 
-/// An action, and the values of x after the state in which it is 0.
+/// An action, and the values of x in the successors of the state with x = 0.
 static ROWS: [(&str, &[i64]); 6] = [
     ("x' \\in {3, 1, 1}", &[1, 3]),
     ("(x' = 1 \\/ x' = 2) /\\ x' \\in {2, 3}", &[2]),

@@ -1,4 +1,4 @@
-//! Tests of what no report says: kinds of tokens that are refused alike, and texts of many mebibytes.
+//! What no report shows: kinds of tokens that are refused alike, and texts of many mebibytes.
 
 use std::alloc::{AllocError, Global};
 use std::test::Fail;
@@ -36,8 +36,8 @@ fn reads_what_is_left_out(rt: HostRuntime) -> Result<(), Fail> {
     Ok(())
 }
 
-/// A mark that is repeated this many times after a module's first words, and the refusal: many open comments, a long
-/// line, a name of 64 mebibytes, and comments of as many.
+/// A text, how often it is repeated after a module's first words, and the refusal with its place: many open comments, a
+/// long line, a name of 64 mebibytes, and comments of as many.
 static LONG: [(&str, u32, LexCode, u64, u128); 4] = [
     ("(*", 1_000_000, LexCode::OpenComment, 1, 19),
     (" <<<", 100_000, LexCode::NoClosingLine, 1, 400_019),
@@ -59,8 +59,8 @@ fn reads_long_texts(rt: HostRuntime) -> Result<(), Fail> {
     for &(mark, times, code, line, column) in &LONG {
         let text = repeated(rt.alloc(), mark.as_bytes(), times)?;
         let refusal = LexError::at(code, Place { line, column });
-        let told = tokens(rt.alloc(), &text).err();
-        assert!(rt; told == Some(refusal), "{line}, {column}");
+        let error = tokens(rt.alloc(), &text).err();
+        assert!(rt; error == Some(refusal), "{line}, {column}");
     }
     Ok(())
 }

@@ -1,5 +1,5 @@
-//! Calls that no expression reaches, and what no clause says of others. What an expression reaches is in the data of
-//! `acceptance`.
+//! Calls that no expression reaches, and what no contract says about others. The data of `acceptance` has what
+//! expressions reach.
 
 use std::alloc::Global;
 use std::hash::{DefaultHasher, Hash, Hasher};
@@ -8,7 +8,7 @@ use std::thread;
 use tla_eval::Partial;
 use tla_value::*;
 
-// The number 1 in nested sets, this many.
+// The number 1 in this many nested sets.
 fn nested(alloc: Global, braces: u64) -> Result<Value, ValueError> {
     let mut value = Value::Int(1);
     for _ in 0..braces {
@@ -19,7 +19,7 @@ fn nested(alloc: Global, braces: u64) -> Result<Value, ValueError> {
     Ok(value)
 }
 
-// Puts in 9 twice, and a value that is too deep before.
+// Inserts 9 twice, and before it a value that is too deep.
 fn puts_in_one(alloc: Global, set: &mut SetValue) -> Result<bool, ValueError> {
     let refused = set.insert(nested(alloc, 64)?);
     let first = set.insert(Value::Int(9))?;
@@ -47,7 +47,7 @@ fn members(rt: HostRuntime) -> Result<(), Fail> {
     Ok(())
 }
 
-// Whether a member too many is refused by the set of the numbers from 1 on, which then is as it was.
+// Whether the set of the numbers from 1 to `largest` refuses one more member, and is unchanged then.
 fn refuses_a_member(alloc: Global, largest: i64) -> Result<bool, ValueError> {
     let mut set = SetValue::range(alloc, 1, largest)?;
     let refused = set.insert(Value::Int(0));
@@ -60,14 +60,14 @@ fn refuses_pairs(alloc: Global, count: i64) -> Result<bool, ValueError> {
     Ok(matches!(made, Err(ValueError::TooMany)))
 }
 
-// Whether a value that is nested so deep is refused by a function.
+// Whether a function refuses a value of this nesting.
 fn refuses_depth(alloc: Global, braces: u64) -> Result<bool, ValueError> {
     let function = one_pair(alloc)?;
     let changed = function.except(alloc, &Value::Int(1), nested(alloc, braces)?);
     Ok(matches!(changed, Err(ValueError::TooDeep)))
 }
 
-// What is refused for its number or its depth, where expressions come by other calls.
+// Values that are refused for their number or depth, by calls that expressions don't reach.
 #[test]
 fn beyond_the_limits(rt: HostRuntime) -> Result<(), Fail> {
     let alloc = rt.alloc();
@@ -77,7 +77,6 @@ fn beyond_the_limits(rt: HostRuntime) -> Result<(), Fail> {
     Ok(())
 }
 
-// The sequence of these numbers.
 fn sequence(alloc: Global, numbers: &[i64]) -> Result<Value, ValueError> {
     let mut values = Vec::new(alloc);
     for number in numbers {
@@ -114,7 +113,7 @@ fn a_copy_equals_its_source(rt: HostRuntime) -> Result<(), Fail> {
     Ok(())
 }
 
-// Grows a set member by member. Where a growth is refused, the set has to be as it was.
+// Grows a set member by member. If memory runs out, the set must be unchanged.
 fn grown(alloc: Global, count: i64) -> Result<SetValue, ValueError> {
     let mut set = SetValue::empty(alloc);
     for number in 0..count {
@@ -131,7 +130,7 @@ fn grown(alloc: Global, count: i64) -> Result<SetValue, ValueError> {
     Ok(set)
 }
 
-// Passes too where some allocation is made to fail.
+// Passes also if some allocation is made to fail.
 #[test]
 fn a_refused_growth_changes_nothing(rt: HostRuntime) {
     match grown(rt.alloc(), 20) {
@@ -179,7 +178,7 @@ fn functions(rt: HostRuntime) -> Result<(), Fail> {
     Ok(())
 }
 
-// The shard among seven of the state in which the one variable has this value. A copy has to be the same.
+// The shard among seven of the state in which the one variable has this value. A copy must be equal.
 fn shard_of(alloc: Global, value: i64) -> Result<Option<u64>, ValueError> {
     let mut values = Vec::new(alloc);
     values.push(Value::Int(value))?;
@@ -221,7 +220,7 @@ fn nested_state(alloc: Global, number: i64) -> Result<State, ValueError> {
     Ok(State::new(values))
 }
 
-// Whether a pool answers the states of these numbers, twice each, as they are.
+// Whether a pool returns equal states for the states of `count` numbers, each put in twice.
 fn shares(alloc: Global, count: i64) -> Result<bool, ValueError> {
     let mut pool = Pool::new(alloc);
     for number in 0..count {
@@ -235,7 +234,7 @@ fn shares(alloc: Global, count: i64) -> Result<bool, ValueError> {
     Ok(true)
 }
 
-// More values than a pool has room for, first or last.
+// More values than a pool has slots, at first and at last.
 #[test]
 fn a_pool_answers_equal_states(rt: HostRuntime) -> Result<(), Fail> {
     assert!(rt; shares(rt.alloc(), 10_000)?);
@@ -255,7 +254,7 @@ fn hash_of(value: &Value) -> u64 {
     hasher.finish()
 }
 
-// The set of a million numbers, made backwards.
+// The set of a million numbers, built from the last to the first.
 fn backwards(alloc: Global) -> Result<SetValue, ValueError> {
     let mut values = Vec::new(alloc);
     for number in 0..1_000_000 {
@@ -270,7 +269,7 @@ fn text_length(alloc: Global, value: &Value) -> Option<usize> {
     Some(text.len())
 }
 
-// Equal sets of a million numbers, of which one was made backwards, have one hash.
+// Equal sets of a million numbers, one of them built backwards, have the same hash.
 fn large_sets_agree(alloc: Global) -> Result<bool, ValueError> {
     let range = Value::Set(SetValue::range(alloc, 1, 1_000_000)?.copy(alloc)?);
     let backwards = Value::Set(backwards(alloc)?);

@@ -1,8 +1,8 @@
-//! Passes and checks by several workers, each a thread that is started, whose gates hold them at chosen pieces.
+//! Passes and checks by several workers, each a thread, whose gates hold them at chosen pieces.
 //!
-//! No clause says that workers run at the same time, that they claim pieces, that a piece is dropped, or that shards are merged
-//! side by side: these tests do. What a report shows by any number of workers stands in the data of `acceptance`, with depths
-//! on a worker's stack among it.
+//! No contract says that workers run at the same time, that they claim pieces, that a piece is dropped, or that shards
+//! are merged in parallel: these tests do. What a report shows for any number of workers is in the data of
+//! `acceptance`, also deep recursion on a worker's stack.
 
 mod board;
 mod checks;

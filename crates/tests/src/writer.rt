@@ -1,4 +1,4 @@
-//! Writers that end, take few bytes a call or are interrupted once.
+//! Writers that run full, take few bytes per call or are interrupted once.
 ghost use Rattle.std.specs.Prelude.{◌≡◌, IfOk};
 
 use std::alloc::Global;
@@ -19,14 +19,14 @@ pub enum End {
 
 pub static ENDS: [End; 3] = [End::Fails, End::TakesNone, End::IsInterruptedOnce];
 
-/// Takes at most `step` bytes a call as long as there is room, and then ends in its way.
+/// Takes at most `step` bytes per call as long as there is room, and then ends in its way.
 #[derive(Drop)]
 pub struct Narrow {
     pub taken: Vec<u8>,
     step: usize,
     room: usize,
     end: End,
-    /// How often it took none.
+    /// How often it took no byte.
     pub refusals: u64,
 }
 

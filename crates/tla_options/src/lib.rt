@@ -1,4 +1,4 @@
-//! What a search is asked to keep to: how many workers search, and its limits.
+//! The options of a search: how many workers search, and its limits.
 #![tactic(auto)]
 
 mod options;

@@ -3,11 +3,10 @@
 use std::sync::atomic::{AtomicU64, Ordering};
 use tla_workers::{GatePlace, Pass};
 
-/// How often the number of pieces is tried to be raised: each failure means that another worker
-/// raised it.
+/// How many times a worker tries to raise the number of pieces. Each failure means that another worker raised it.
 const TRIES: u64 = 64;
 
-/// Which level has the most pieces of those that a search went through.
+/// The level with the most pieces so far.
 #[derive(Drop)]
 pub struct GreatestLevel {
     /// The number of the level, from 0.
@@ -25,7 +24,7 @@ pub struct Greatest {
 }
 
 impl GreatestLevel {
-    /// No level was searched.
+    /// No level was searched yet.
     pub fn new() -> GreatestLevel {
         GreatestLevel {
             level: AtomicU64::new(0),
@@ -52,8 +51,8 @@ impl GreatestLevel {
         }
     }
 
-    /// The greatest level, where pieces have up to `cut` states. None where no level has more than
-    /// one piece, since then it isn't known.
+    /// The greatest level, if pieces have up to `cut` states. None if no level has more than one piece: then it isn't
+    /// known which level is the greatest.
     pub fn greatest(&self, cut: u64) -> Option<Greatest> {
         let pieces = self.pieces.load(Ordering::SeqCst);
         if pieces < 2 {

@@ -1,16 +1,16 @@
-//! Signs of life of a long search, on standard error, and what a long run went through.
+//! Progress lines of a long search, on standard error, and the summary of a long run.
 //!
-//! A gate hears of pieces and not of states, so the numbers of states are bounds.
+//! A gate is called for pieces, not for states, so the numbers of states are bounds.
 #![tactic(auto)]
 
 mod greatest;
 mod memory;
 mod progress;
-mod seen;
-mod took;
+mod progress_line;
+mod run_summary;
 
 pub use greatest::{Greatest, GreatestLevel};
 pub use memory::{Memory, NoMemory, ProcessMemory};
 pub use progress::Progress;
-pub use seen::Seen;
-pub use took::Took;
+pub use progress_line::ProgressLine;
+pub use run_summary::RunSummary;

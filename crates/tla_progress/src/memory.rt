@@ -3,16 +3,16 @@
 use std::fs;
 use std::io::Read;
 
-/// Where Linux says how much memory a process has in use.
+/// The file in which Linux says how much memory a process has in use.
 const STATUS: &str = "/proc/self/status";
 
-/// What says how much memory the process has in use.
+/// A source for the memory that the process has in use.
 pub trait Memory {
-    /// The memory in use, in kilobytes. None where it isn't known.
+    /// The memory in use, in kilobytes. None if it isn't known.
     fn in_use(&self) -> Option<u64>;
 }
 
-/// Memory in use that isn't known.
+/// A source that never knows the memory in use.
 #[derive(Clone, Copy, Debug)]
 pub struct NoMemory;
 
@@ -22,10 +22,10 @@ impl Memory for NoMemory {
     }
 }
 
-/// The memory of this process, where it runs on Linux.
+/// The memory of this process, on Linux.
 ///
-/// It has the process's own runtime: of a runtime that is only known to have files, it isn't known
-/// that another thread may use them.
+/// It takes the concrete `HostRuntime`, since several threads share it: a runtime that is only known to have files
+/// isn't known to be `Sync`.
 #[derive(Drop)]
 pub struct ProcessMemory<'a> {
     rt: &'a HostRuntime,
@@ -42,12 +42,12 @@ impl Memory for ProcessMemory<'_> {
         let mut file = fs::open(self.rt, STATUS).ok()?;
         let mut text = [0u8; 4096];
         let count = file.read(&mut text).ok()?;
-        resident(str::from_utf8(text.get(..count)?).ok()?)
+        resident_kilobytes(str::from_utf8(text.get(..count)?).ok()?)
     }
 }
 
 /// The kilobytes in the line `VmRSS:    1234 kB`.
-fn resident(status: &str) -> Option<u64> {
+fn resident_kilobytes(status: &str) -> Option<u64> {
     for line in status.lines() {
         if let Some(rest) = line.strip_prefix("VmRSS:") {
             return rest.split_whitespace().next()?.parse().ok();

@@ -1,8 +1,8 @@
-//! The gate that shows how far a search has come.
+//! The gate that writes progress lines.
 
 use crate::greatest::GreatestLevel;
 use crate::memory::Memory;
-use crate::seen::Seen;
+use crate::progress_line::ProgressLine;
 use std::io::Eprint;
 use std::sync::atomic::{AtomicU64, Ordering};
 use std::time::{Clock, Instant};
@@ -11,8 +11,7 @@ use tla_workers::{Gate, GatePlace, Pass};
 /// When the first line is written, in milliseconds from the beginning.
 const FIRST: u64 = 2_000;
 
-/// How many milliseconds lie between two lines at least: in the first minute, in the first ten
-/// minutes, and later.
+/// The least number of milliseconds between two lines: in the first minute, in the first ten minutes, and later.
 const BETWEEN: [u64; 3] = [5_000, 30_000, 60_000];
 
 /// A minute and ten minutes, in milliseconds.
@@ -20,18 +19,18 @@ const MINUTE: u64 = 60_000;
 
 const TEN_MINUTES: u64 = 600_000;
 
-/// How many milliseconds after another a look at the clock is a soon one.
+/// If two looks at the clock are fewer milliseconds apart, more pieces are skipped.
 const SOON: u64 = 100;
 
-/// How many pieces pass without a look at the clock, at most. One less than a power of 2, as each
-/// such number here.
+/// The most pieces that pass without a look at the clock. Like every number of skipped pieces, it is one less than a
+/// power of 2.
 const MOST_SKIPPED: u64 = 1_023;
 
-/// A gate that is always open. Where it knows when the run began, it writes how far the search has
-/// come, a line every few seconds and later every minute. What fails in that is ignored.
+/// A gate that is always open. If it knows when the run began, it writes how far the search has come: a line every few
+/// seconds, and later every minute. It ignores errors of writing.
 ///
-/// A worker writes the line. Where standard error is a pipe that is full and that nobody reads,
-/// this worker waits, and the search with it.
+/// A worker writes the line. If standard error is a full pipe that nobody reads, this worker waits, and the search with
+/// it.
 #[derive(Drop)]
 pub struct Progress<'a, R, M> {
     rt: &'a R,
@@ -59,8 +58,9 @@ pub struct Progress<'a, R, M> {
 }
 
 impl<'a, R: Clock + Eprint, M: Memory> Progress<'a, R, M> {
-    /// A gate for a search in pieces of up to `cut` states, in a run that began then. It writes
-    /// nothing where `began` is none.
+    /// A gate for a search in pieces of up to `cut` states, in a run that began at `began`. If that is `None`, it
+    /// writes
+    /// nothing.
     pub fn new(
         rt: &'a R,
         memory: &'a M,
@@ -85,7 +85,7 @@ impl<'a, R: Clock + Eprint, M: Memory> Progress<'a, R, M> {
         }
     }
 
-    /// Counts a piece of a pass, and answers whether to look at the clock.
+    /// Counts a piece of a pass, and returns whether to look at the clock.
     fn count(&self, pass: Pass) -> bool {
         match pass {
             Pass::Invariants => {
@@ -100,8 +100,7 @@ impl<'a, R: Clock + Eprint, M: Memory> Progress<'a, R, M> {
         number & self.skipped.load(Ordering::SeqCst) == 0
     }
 
-    /// Skips more pieces up to the next look at the clock where this one comes soon after another,
-    /// else none.
+    /// Skips more pieces before the next look at the clock if this look came soon after the one before, else none.
     fn pace(&self, now: u64) {
         let before = self.looked.swap(now, Ordering::SeqCst);
         let skipped = self.skipped.load(Ordering::SeqCst);
@@ -116,35 +115,35 @@ impl<'a, R: Clock + Eprint, M: Memory> Progress<'a, R, M> {
         self.skipped.store(next, Ordering::SeqCst);
     }
 
-    /// Writes how far the search has come, where a line is due that no other thread writes.
+    /// Writes a line if one is due and no other thread writes it.
     fn write_if_due(&self, place: &GatePlace, now: u64) {
         let due = self.due.load(Ordering::SeqCst);
         if now < due {
             return;
         }
-        let next = now.saturating_add(between(now));
+        let next = now.saturating_add(interval_after(now));
         let taken = self
             .due
             .compare_exchange(due, next, Ordering::SeqCst, Ordering::SeqCst);
         if taken.is_ok() {
-            let _ = self.rt.eprintln(self.seen(place, now));
+            let _ = self.rt.eprintln(self.line_at(place, now));
         }
     }
 
-    /// How many states are in this many pieces of this many levels, at least. Each piece of a level
-    /// but its last one is full.
+    /// The least number of states in this many pieces of this many levels. Each piece of a level but its last one is
+    /// full.
     fn states_in(&self, pieces: u64, levels: u64) -> u64 {
         let full = pieces.saturating_sub(levels).saturating_mul(self.cut);
         full.saturating_add(levels.min(pieces))
     }
 
-    /// How far the search has come.
-    fn seen(&self, place: &GatePlace, now: u64) -> Seen {
+    /// The line that says how far the search has come.
+    fn line_at(&self, place: &GatePlace, now: u64) -> ProgressLine {
         let asked = self.asked.load(Ordering::SeqCst);
         let read = self.read.load(Ordering::SeqCst);
         let levels = place.level.saturating_add(1);
         let states = self.states_in(asked, levels);
-        Seen {
+        ProgressLine {
             seconds: now / 1_000,
             levels,
             pass: place.pass,
@@ -168,8 +167,8 @@ impl<'a, R: Clock + Eprint, M: Memory> Progress<'a, R, M> {
     }
 }
 
-/// How many milliseconds lie between a line and the next one.
-fn between(now: u64) -> u64 {
+/// How many milliseconds after a line the next one is due.
+fn interval_after(now: u64) -> u64 {
     let [first, later, last] = BETWEEN;
     if now < MINUTE {
         first

@@ -1,10 +1,10 @@
--- What a reader gives in several reads.
+-- The bytes of a reader in several reads.
 use Rattle.std.proofs.Common.{◌≡◌, ◌∙◌, ◌+◌, ◌*◌, ◌<◌, ◌≤◌, ◌++◌, ap, sym, arith, refl, ℕ, List, [], length, take, Option, Some, None, IfSome}
 use Rattle.std.proofs.lemmas.List.{append_assoc, append-nil, length-append}
 use Rattle.std.specs.Io.KnownBytes.{Consumes, IsAtEnd}
 
--- after some reads: the reader had the known bytes `before` and has `after`, and gave `bytes`, one to
--- `most` of them at each read
+-- after some reads: the reader had the known bytes `before` and has `after`, and returned `bytes`, one to
+-- `most` of them in each read
 pub record HasRead (most : ℕ) (before after : Option (List ℕ)) (bytes : List ℕ) (reads : ℕ) : Type 0 where
   pub consumed : Consumes before after bytes
   pub least : reads ≤ length bytes

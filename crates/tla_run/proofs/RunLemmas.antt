@@ -1,4 +1,4 @@
--- What the functions of a run cite.
+-- Lemmas for the functions of a run.
 use Rattle.std.proofs.Common.{◌≡◌, ◌∙◌, ◌+◌, ◌<◌, ◌++◌, ap, sym, subst, codes, append_assoc, append-nil}
 use Rattle.std.proofs.Common.{ℕ, Bool, true, false, List, [], ◌∷◌, Option, None, Some, inl, inr, length, map, option_map, take, get_or}
 use Rattle.std.specs.Prelude.{Result, Ok, Err, IfErr, OnOk}
@@ -25,12 +25,12 @@ use Rattle.tla_run.specs.Private.Reading.{HoldsBoth}
 use Rattle.tla_run.specs.Runs.{AsksFor, ComesTo, Files, Gets, GetsNothing, GetsUpTo, Holds, IsCheckOf, IsRun, IsSomeRun, Says, SaysMore, Writing}
 use Rattle.tla_run.specs.Runs.{no_words, on_line, on_words, refused}
 
--- what was put is the first bytes of it
+-- the bytes written are a prefix of the text
 pub gets_put : (old new : Option (List ℕ)) (bytes : List ℕ) (r : Result ℕ ShortWrite) → Puts old new 0 bytes r
     → GetsUpTo (record { old = old; new = new }) bytes
 gets_put old new bytes r h = (h.taken, h.added)
 
--- a write that failed has its fault, and one that didn't went through
+-- a failed write has its fault, and one that didn't fail wrote all
 pub write_failed : {T E : Type 0} (P : E → Type 0) (r : Result T E) (failed : Bool) → failed ≡ is_err r → failed ≡ true → IfErr r P → (e : E) × P e
 write_failed P (Ok x) failed same is h = let bad : false ≡ true = sym same ∙ is in cc
 write_failed P (Err e) failed same is h = (e, h)
@@ -39,7 +39,7 @@ pub write_done : {T E : Type 0} (P : Type 0) (r : Result T E) (failed : Bool) �
 write_done P (Ok x) failed same is h = h
 write_done P (Err e) failed same is h = let bad : true ≡ false = sym same ∙ is in cc
 
--- what is right of the texts is right of the files
+-- the right result for the texts is right for the files
 pub check_of : (files : Files) (inputs : Inputs) (limit : ℕ) (checked : Checked) → HoldsBoth files inputs
     → limit ≡ inputs.line.now.options.limit → IsChecked inputs.module.now inputs.config.now limit checked
     → IsCheckOf files inputs.line.now checked
@@ -66,16 +66,16 @@ asks_json line name is = inl (ap (option_map (λ file. file.now)) is)
 pub asks_dot : (line : Line) (name : Bor Text) → line.dot ≡ Some name → AsksFor line name.now
 asks_dot line name is = inr (ap (option_map (λ file. file.now)) is)
 
--- ---- what is said
+-- ---- messages
 
--- of a line that is said quietly
+-- a line with `--quiet`
 pub says_quietly : (quiet : Bool) (err : Writing) (line help : List ℕ) → quiet ≡ true → GetsUpTo err line → Says quiet err line help
 says_quietly quiet err line help is says = record {
   quietly = λ _. says;
   openly = λ other. let bad : true ≡ false = sym is ∙ other in cc;
 }
 
--- of a line with what helps
+-- a line with what helps
 pub says_openly : (quiet : Bool) (err : Writing) (line help : List ℕ) → quiet ≡ false → SaysMore err (line ++ help) → Says quiet err line help
 says_openly quiet err line help is says = record {
   quietly = λ other. let bad : false ≡ true = sym is ∙ other in cc;
@@ -93,12 +93,12 @@ says_alone quiet err line says = record {
   openly = λ _. says_no_more err (line ++ []) (says.0, subst (λ t. Gets err (take says.0 t)) (sym (append-nil line)) says.1);
 }
 
--- what was put, without anything after a line
+-- the bytes written, without anything after a line
 pub gets_alone : (old new : Option (List ℕ)) (line : List ℕ) (r : Result ℕ ShortWrite) → Puts old new 0 (line ++ []) r
     → GetsUpTo (record { old = old; new = new }) line
 gets_alone old new line r h = (h.taken, subst (λ t. Appends old new (take h.taken t)) (append-nil line) h.added)
 
--- all was put, and then further bytes
+-- all was written, and then further bytes
 pub gets_more : (old middle new : Option (List ℕ)) (bytes : List ℕ) (written : ℕ) → Puts old middle 0 bytes (Ok written) → Grows middle new
     → SaysMore (record { old = old; new = new }) bytes
 gets_more old middle new bytes written h more = (
@@ -110,14 +110,14 @@ gets_more old middle new bytes written h more = (
   ),
 )
 
--- what was put and what may be hinted at after it
+-- the bytes written, and possible hints after them
 pub grows_put : (old new : Option (List ℕ)) (before : ℕ) (bytes : List ℕ) (r : Result ℕ ShortWrite) → Puts old new before bytes r → Grows old new
 grows_put old new before bytes r h = (take h.taken bytes, h.added)
 
 pub grows_none : (old : Option (List ℕ)) → Grows old old
 grows_none old = ([], appends_nothing old)
 
--- a line about a file, and what is put after it
+-- a line about a file, and the text after it
 pub file_line : (start name end more : List ℕ) → start ++ (name ++ (end ++ more)) ≡ (start ++ (name ++ end)) ++ more
 file_line start name end more = sym (append_assoc start (name ++ end) more ∙ ap (λ t. start ++ t) (append_assoc name end more))
 
@@ -125,7 +125,7 @@ pub puts_line : (start name end more : List ℕ) {old new : Option (List ℕ)} {
     → Puts old new before (start ++ (name ++ (end ++ more))) r → Puts old new before ((start ++ (name ++ end)) ++ more) r
 puts_line start name end more {old} {new} {before} {r} h = subst (λ bytes. Puts old new before bytes r) (file_line start name end more) h
 
--- a line and more of it, of which nothing is promised
+-- a line and further bytes, about which nothing is promised
 pub says_with : (old new : Option (List ℕ)) (line more : List ℕ) (r : Result ℕ ShortWrite) → Puts old new 0 (line ++ more) r
     → SaysMore (record { old = old; new = new }) (line ++ [])
 says_with old new line more r h =
@@ -138,7 +138,7 @@ map_more : {A : Type 0} (f : A → List ℕ) (xs : List A) (i : ℕ) (x : A) →
 map_more f xs i x l is =
     ap (map f) (take_more xs i x l) ∙ map-append f (take i xs) (get_or xs i x ∷ []) ∙ ap (λ y. map f (take i xs) ++ f y ∷ []) (sym is)
 
--- the texts of one word more
+-- the texts of one more word
 pub texts_more : {A B : Type 0} (f : A → List ℕ) (t : B → List ℕ) (words : List A) (list longer : List B) (i : ℕ) (word : A) (x : B)
     → map t list ≡ map f (take i words) → longer ≡ list ++ x ∷ [] → t x ≡ f word → i < length words → word ≡ get_or words i word
     → map t longer ≡ map f (take (i + 1) words)
@@ -159,7 +159,7 @@ pub runs_refused : (words : List Text) (slice items : List (Bor Text)) (files : 
 runs_refused words slice items files no_line out err status is same fits runs =
     subst (λ ws. IsRun ws files out err status) (ap texts is ∙ same) (runs fits)
 
--- the run where memory ran out before the words were read
+-- a run in which memory ran out before the words were read
 pub runs_out : (words : List Text) (files : Files) (out err : Writing) (status : ℕ) → GetsNothing out
     → GetsUpTo err (codes "tlacheck: out of memory\n") → status ≡ 21 → IsRun words files out err status
 runs_out words files out err status nothing says ends =

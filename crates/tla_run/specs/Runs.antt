@@ -1,4 +1,4 @@
--- What a run of the program does: what it writes, and the status with which it ends. (This project's own choice.)
+-- What a run of the program does: what it writes, and its exit status. (This project's own choice.)
 use Rattle.std.specs.Prelude.{◌≡◌, ◌⊎◌, ◌++◌, ℕ, Bool, true, false, List, Option, Some, [], codes, take, option_map, IfSome}
 use Rattle.std.specs.Io.KnownBytes.{Appends}
 use Rattle.counted_writer.specs.Puts.{AddsFirst}
@@ -16,7 +16,7 @@ use Rattle.tla_run.specs.Unread.{cause_text}
 
 -- ---- what a writer gets
 
--- the bytes that a writer has before and after a run, where they are known
+-- the contents of a writer before and after a run, if they are known
 pub record Writing : Type 0 where
   pub old : Option (List ℕ)
   pub new : Option (List ℕ)
@@ -29,15 +29,15 @@ Gets w bytes = Appends w.old w.new bytes
 abbrev pub GetsNothing : Writing → Type 0
 GetsNothing w = w.new ≡ w.old
 
--- the bytes were written, or the first of them, where a write failed
+-- the bytes were written, or only the first of them, if a write failed
 abbrev pub GetsUpTo : Writing → List ℕ → Type 0
 GetsUpTo w bytes = (taken : ℕ) × Gets w (take taken bytes)
 
--- these bytes, and further ones that hint at what was meant, were written, or the first of them
+-- these bytes, and then hints at what was meant, were written, or only the first of them
 abbrev pub SaysMore : Writing → List ℕ → Type 0
 SaysMore w bytes = (hints : List ℕ) × GetsUpTo w (bytes ++ hints)
 
--- A line was written: alone under `--quiet`, and else with what helps after it.
+-- A line was written: alone with `--quiet`, else with what helps after it.
 pub record Says (quiet : Bool) (err : Writing) (line help : List ℕ) : Type 0 where
   pub quietly : quiet ≡ true → GetsUpTo err line
   pub openly : quiet ≡ false → SaysMore err (line ++ help)
@@ -52,21 +52,21 @@ cannot_read name = codes "tlacheck: cannot read " ++ (name ++ codes "\n")
 abbrev pub cannot_write : Text → List ℕ
 cannot_write name = codes "tlacheck: cannot write " ++ (name ++ codes "\n")
 
--- what is said of a report that a write cut short
+-- the message for a report of which a write failed
 abbrev pub unwritten_report : List ℕ
 unwritten_report = codes "tlacheck: cannot write the report\n"
 
 -- ---- a run on a line
 
--- the bytes of files by their names, where they are known
+-- the bytes of files by their names, if they are known
 abbrev pub Files : Type 0
 Files = Text → Option (List ℕ)
 
--- these are the bytes of the file of this name
+-- if the bytes of the file of this name are known, they are these
 abbrev pub Holds : Files → Text → List ℕ → Type 0
 Holds files name bytes = IfSome (files name) (λ known. bytes ≡ known)
 
--- what is right of the two files of a line
+-- the right result of a check of the two files of a line
 pub record IsCheckOf (files : Files) (line : Line) (checked : Checked) : Type 0 where
   pub text : List ℕ
   pub config : List ℕ
@@ -74,14 +74,14 @@ pub record IsCheckOf (files : Files) (line : Line) (checked : Checked) : Type 0 
   pub reads_config : Holds files line.config.now config
   pub right : IsChecked text config line.options.limit checked
 
--- the line asks for a file of this name, by `--json` or by `--dot`
+-- the line has an output file of this name, by `--json` or by `--dot`
 abbrev pub AsksFor : Line → Text → Type 0
 AsksFor line name = (option_map (λ file. file.now) line.json ≡ Some name) ⊎ (option_map (λ file. file.now) line.dot ≡ Some name)
 
 -- what a run on a line writes, and its status
 pub data ComesTo (files : Files) (line : Line) (out err : Writing) (status : ℕ) : Type 0 where
-  -- The first writer got the report of what is right of the two files, and the status is its status. Under `--quiet` the
-  -- second got nothing.
+  -- The report of the right result for the two files went to the first writer, and the status is that of this result.
+  -- With `--quiet` nothing went to the second writer.
   reported : (checked : Checked) → IsCheckOf files line checked → Gets out (report checked) → (line.quiet ≡ true → GetsNothing err)
       → status ≡ status_of checked → ComesTo files line out err status
   -- a write of the report failed
@@ -91,7 +91,7 @@ pub data ComesTo (files : Files) (line : Line) (out err : Writing) (status : ℕ
   -- one of the two files could not be read
   unread : (name : Text) (cause : Unread) → (name ≡ line.module.now) ⊎ (name ≡ line.config.now) → GetsNothing out
       → Says line.quiet err (cannot_read name) (cause_text cause) → status ≡ 21 → ComesTo files line out err status
-  -- a file that the line asks for could not be created
+  -- an output file could not be created
   uncreated : (name : Text) → AsksFor line name → GetsNothing out → Says line.quiet err (cannot_write name) [] → status ≡ 21
       → ComesTo files line out err status
 
@@ -101,15 +101,15 @@ pub data ComesTo (files : Files) (line : Line) (out err : Writing) (status : ℕ
 pub data IsRun (words : List Text) (files : Files) (out err : Writing) (status : ℕ) : Type 0 where
   -- the words mean a line
   on_line : (line : Line) → MeanLine words line → ComesTo files line out err status → IsRun words files out err status
-  -- they mean none; of the texts of `clap` nothing is said
+  -- they mean none; the texts of `clap` are left open
   refused : (no_line : NoLine) → IsNoLine words no_line → (IsHelp no_line.fault → ⊥) → GetsNothing out
       → IfSome (text_of_fault no_line.fault) (λ text. Says (is_quiet words) err text (help_of no_line))
       → status ≡ 21 → IsRun words files out err status
-  -- they ask for help or for the version; the status is 21 where a write failed
+  -- they ask for help or for the version; the status is 21 if a write failed
   helped : (no_line : NoLine) → IsNoLine words no_line → IsHelp no_line.fault → GetsNothing err → (status ≡ 0) ⊎ (status ≡ 21)
       → IsRun words files out err status
 
--- a run on words that the process has, or it has none that are text
+-- a run on the words of the process, or one whose words aren't text
 pub data IsSomeRun (out err : Writing) (status : ℕ) : Type 0 where
   on_words : (words : List Text) (files : Files) → IsRun words files out err status → IsSomeRun out err status
   no_words : GetsNothing out → status ≡ 21 → IsSomeRun out err status

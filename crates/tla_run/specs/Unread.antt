@@ -3,7 +3,7 @@ use Rattle.std.specs.Prelude.{ℕ, List, codes}
 use Rattle.tla_run.specs.declared.unread.Unread.{Unread}
 use Rattle.tla_run.specs.declared.unread.Unread.TheVariants.{Missing, Path, Folder, NotPermitted, Endless, Memory, Failed}
 
--- the line that says it
+-- the line for the user
 abbrev pub cause_text : Unread → List ℕ
 cause_text Missing = codes "cause: there is no such file\n"
 cause_text Path = codes "cause: a part of its path is no folder\n"

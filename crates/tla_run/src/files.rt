@@ -1,4 +1,4 @@
-//! The files that a line asks for.
+//! The output files of a line.
 ghost use Rattle.std.specs.Prelude.{◌≡◌, Some, IfErr};
 ghost use Rattle.tla_run.specs.Runs.{AsksFor};
 
@@ -6,7 +6,7 @@ use crate::host::{Host, Inputs};
 use std::io::ErrorKind;
 use tla_check::{Checked, Line};
 
-/// The files that a line asks for, created and still empty.
+/// The output files of a line, created and still empty.
 #[derive(Drop)]
 pub struct NewFiles<F> {
     json: Option<F>,
@@ -25,9 +25,9 @@ pub struct Uncreated<'a> {
 pub enum Uncreatable {
     /// It is the module or the configuration.
     Input,
-    /// It is asked for twice.
+    /// It is named twice.
     Twice,
-    /// Its folder isn't there.
+    /// Its folder doesn't exist.
     NoFolder,
     Folder,
     NotPermitted,
@@ -44,7 +44,7 @@ impl Uncreatable {
         }
     }
 
-    /// The line that says it.
+    /// The line for the user.
     pub fn text(self) -> &'static str {
         match self {
             Uncreatable::Input => "cause: it is one of the files to check\n",
@@ -57,7 +57,7 @@ impl Uncreatable {
     }
 }
 
-/// Creates the files that the line asks for.
+/// Creates the output files of the line.
 #[tactic(auto, using(crate::proofs::RunLemmas::asks_json, crate::proofs::RunLemmas::asks_dot))]
 pub fn create_files<'a, H: Host>(
     host: &H,
@@ -105,7 +105,7 @@ fn create<'a, H: Host>(
     }
 }
 
-/// Writes the files, and answers the names of those where that failed.
+/// Writes the files, and returns the names of those that failed.
 pub fn write_files<'a, H: Host>(
     host: &H,
     files: &mut NewFiles<H::NewFile>,

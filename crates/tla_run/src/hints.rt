@@ -1,4 +1,4 @@
-//! What was probably meant, where a file isn't there or isn't named.
+//! Hints at what was probably meant, if a file doesn't exist or isn't named.
 ghost use Rattle.tla_run.specs.Private.Growing.{Grows};
 
 use crate::host::Host;
@@ -9,7 +9,7 @@ use std::io::Write;
 use tla_hints::meant;
 use tla_line::NumberOption;
 
-/// Hints at the file that was probably meant, where there is none of this name.
+/// Hints at the file that was probably meant, if there is none of this name.
 pub fn hint_at_near_file<H: Host, E: Write>(
     alloc: Global,
     host: &H,
@@ -23,8 +23,8 @@ pub fn hint_at_near_file<H: Host, E: Write>(
     }
 }
 
-/// The hint at the name with the ending of its kind, or at the nearest name in the same folder, if that
-/// file can be opened.
+/// The hint at the name with the extension of its kind, or at the nearest name in the same folder, if that file can be
+/// opened.
 fn near_file<H: Host>(alloc: Global, host: &H, file: &UnreadFile<'_>) -> Option<String> {
     if file.cause != Unread::Missing {
         return None;
@@ -36,7 +36,7 @@ fn near_file<H: Host>(alloc: Global, host: &H, file: &UnreadFile<'_>) -> Option<
     format!(in alloc; "hint: did you mean {near}?\n").ok()
 }
 
-/// The name of a file with the ending of its kind, added to it or in place of its own ending.
+/// The name of a file with the extension of its kind added, or in place of its own extension.
 fn with_ending<H: Host>(alloc: Global, host: &H, file: &UnreadFile<'_>) -> Option<String> {
     let (folder, name) = split_name(file.name);
     for stem in [name, stem_of(name)] {
@@ -59,7 +59,7 @@ fn nearest_beside<H: Host>(alloc: Global, host: &H, file: &UnreadFile<'_>) -> Op
     Some(near)
 }
 
-/// The names of files that have this ending, without it, in order.
+/// The names of the files with this extension, without it, in order.
 fn stems_with<'a>(
     alloc: Global,
     files: &'a [String],
@@ -75,7 +75,7 @@ fn stems_with<'a>(
     Ok(stems)
 }
 
-/// A name of a file up to its last slash, and what follows.
+/// The name of a file up to its last slash, and the rest.
 pub(crate) fn split_name(name: &str) -> (&str, &str) {
     let start = match name.rfind('/') {
         Some(slash) => slash.saturating_add(1),
@@ -87,7 +87,7 @@ pub(crate) fn split_name(name: &str) -> (&str, &str) {
     )
 }
 
-/// A name without its ending.
+/// A name without its extension.
 fn stem_of(name: &str) -> &str {
     match name.rsplit_once('.') {
         Some((stem, _)) => stem,
@@ -95,7 +95,7 @@ fn stem_of(name: &str) -> &str {
     }
 }
 
-/// Hints at what is wrong with words that lack one: bad numbers, and a configuration that isn't named.
+/// Hints at what is wrong if a word is missing: bad numbers, and a configuration that isn't named.
 pub fn hint_at_lacking_word<H: Host, E: Write>(
     alloc: Global,
     host: &H,
@@ -132,7 +132,7 @@ fn both_files<H: Host>(alloc: Global, host: &H, name: &str) -> Option<String> {
     format!(in alloc; "hint: name the configuration too: tlacheck {module} {config}\n").ok()
 }
 
-/// Options of TLC, and what is written in their place.
+/// Options of TLC, and what to write instead.
 static TLC_OPTIONS: [(&'static str, &'static str); 3] = [
     ("-workers", "hint: TLC's -workers is --workers here\n"),
     (
@@ -145,7 +145,7 @@ static TLC_OPTIONS: [(&'static str, &'static str); 3] = [
     ),
 ];
 
-/// Hints at what is written in place of TLC's options.
+/// Hints at what to write instead of TLC's options.
 pub fn hint_at_tlc_options<E: Write>(words: &[&str], err: &mut E) {
     for word in words {
         if let Some(hint) = tlc_hint(word) {
@@ -154,7 +154,7 @@ pub fn hint_at_tlc_options<E: Write>(words: &[&str], err: &mut E) {
     }
 }
 
-/// The hint at what is written in place of an option of TLC.
+/// The hint at what to write instead of an option of TLC.
 fn tlc_hint(word: &str) -> Option<&'static str> {
     for (option, hint) in &TLC_OPTIONS {
         if *option == word {

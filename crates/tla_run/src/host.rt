@@ -1,4 +1,4 @@
-//! What a run has of the process.
+//! What a run needs of the process.
 ghost use Rattle.std.specs.Prelude.{◌≡◌, ℕ, List, Option, None, false, IfOk, IfSome, Some};
 
 use std::alloc::Global;
@@ -6,7 +6,7 @@ use std::io;
 use std::io::{Read, Write};
 use tla_check::{Checked, Gate, Line};
 
-/// What a run checks: the line that its words mean, and the texts of the two files.
+/// The inputs of a run: the line that its words mean, and the texts of the two files.
 #[derive(Clone, Copy)]
 pub struct Inputs<'a> {
     pub line: &'a Line<'a>,
@@ -14,7 +14,7 @@ pub struct Inputs<'a> {
     pub config: &'a [u8],
 }
 
-/// What a run has of the process beside its words, its two writers and its threads.
+/// What a run needs of the process, besides its words, its two writers and its threads.
 pub trait Host {
     /// A file that is open for reading.
     type File: Read + Drop;
@@ -22,10 +22,10 @@ pub trait Host {
     /// A file that was created and is open for writing.
     type NewFile: Write + Drop;
 
-    /// What the search of a run goes through.
+    /// The gate of the search of a run.
     type Gate: Gate + Drop;
 
-    // the bytes of the file of a name, where they are known
+    // the bytes of the file of a name, if they are known
     ghost files: { Self → List ℕ → Option (List ℕ) } = { λ _ _. None };
 
     /// Opens the file of this name for reading from its start.
@@ -36,16 +36,15 @@ pub trait Host {
     /// The names of files in the folder of the file of this name.
     fn files_beside(&self, alloc: Global, name: &str) -> io::Result<Vec<String>>;
 
-    /// Creates the file of this name, or empties it where it is there.
+    /// Creates the file of this name, or empties it if it exists.
     fn create(&self, name: &str) -> io::Result<Self::NewFile>;
 
-    /// The gate for the search of a line that isn't quiet. What it says, and whether that fails, changes
-    /// nothing else.
+    /// The gate for the search of a line that isn't quiet. What it writes, and whether that fails, has no other effect.
     fn gate(&self, line: &Line<'_>) -> Self::Gate
         requires { line.now.quiet ≡ false };
 
-    /// Explains on the second writer what was checked, for a line that isn't quiet. It is called once the
-    /// report was written whole; what it writes, and whether that fails, changes nothing else.
+    /// Writes the explanation to the second writer, for a line that isn't quiet. It is called after the whole report
+    /// was written. What it writes, and whether that fails, has no other effect.
     fn explain<E: Write>(
         &self,
         err: &mut E,

@@ -15,7 +15,7 @@ const BUFFER_BYTES: usize = 65_536;
 pub enum ReadFault {
     /// A read failed.
     Failed,
-    /// Its end didn't come within a million reads.
+    /// The end was not reached within a million reads.
     Endless,
     Memory,
 }
@@ -36,8 +36,8 @@ impl From<AllocError> for ReadFault {
     }
 }
 
-/// The bytes that the reader gives up to its end, in at most 1,000,000 reads of up to 65,536 bytes.
-/// After a fault some of its bytes are lost.
+/// The bytes of the reader up to its end, in at most 1,000,000 reads of up to 65,536 bytes. After a fault some of its
+/// bytes are lost.
 pub fn read_whole<R: Read>(alloc: Global, reader: &mut R) -> Result<Vec<u8>, ReadFault>
     ensures bytes { IfOk result (λ v. IfSome (R.remaining reader.old) (λ bytes. v.items ≡ bytes)) }
     ensures end { OnOk result (IsAtEnd (R.remaining reader.new)) }

@@ -1,4 +1,4 @@
-//! A run of the program: from the words of the command line and two files to what is written and the exit status.
+//! A run of the program: from the words of the command line and two files to its output and the exit status.
 #![tactic(auto)]
 
 mod files;

@@ -1,4 +1,4 @@
-//! What goes to standard error where there is no report.
+//! The messages on standard error if there is no report.
 ghost use Rattle.std.specs.Prelude.{◌≡◌, ◌++◌, [], codes, IfSome};
 ghost use Rattle.counted_writer.specs.Puts.{Puts};
 ghost use Rattle.clap.specs.Walk.{texts};
@@ -17,7 +17,7 @@ use std::alloc::Global;
 use std::io::Write;
 use tla_line::{LineFault, NoLine, is_quiet};
 
-/// Says why the words are no command line, and, unless they ask for quiet, what helps.
+/// Says why the words are no valid command line and, without `--quiet`, what helps.
 pub fn complain<H: Host, E: Write>(
     alloc: Global,
     host: &H,
@@ -41,7 +41,7 @@ pub fn complain<H: Host, E: Write>(
     }
 }
 
-/// Writes a line, and what helps unless it is quiet.
+/// Writes a line, and, unless it is quiet, what helps.
 fn say<E: Write>(is_quiet: bool, line: &str, help: &str, err: &mut E)
     ensures { Says is_quiet (record { old = E.contents err.old; new = E.contents err.new })
         line.now help.now }
@@ -79,7 +79,7 @@ pub fn tell_no_memory<E: Write>(err: &mut E)
     let _ = put(err, 0, b"tlacheck: out of memory\n");
 }
 
-/// Says which file can't be read, and why unless it is quiet.
+/// Says which file can't be read and, unless it is quiet, why.
 pub fn tell_unread<H: Host, E: Write>(
     alloc: Global,
     host: &H,
@@ -100,7 +100,7 @@ pub fn tell_unread<H: Host, E: Write>(
     }
 }
 
-/// Says which file can't be created, and why unless it is quiet.
+/// Says which file can't be created and, unless it is quiet, why.
 pub fn tell_uncreated<E: Write>(is_quiet: bool, file: &Uncreated<'_>, err: &mut E)
     ensures { Says is_quiet (record { old = E.contents err.old; new = E.contents err.new })
         (cannot_write file.now.name.now) [] }

@@ -15,13 +15,13 @@ use std::time::{Clock, Instant};
 use std::{env, fs, io};
 use tla_check::{Checked, Gate, GatePlace, Line, LineFault};
 use tla_explain::{FileNames, Style, explain, write_document, write_graph};
-use tla_progress::{GreatestLevel, Memory, Progress, Took};
+use tla_progress::{GreatestLevel, Memory, Progress, RunSummary};
 
-/// How many files of a folder are looked at for a near name.
+/// The most files of a folder that are searched for a near name.
 const MOST_FILES: usize = 10_000;
 
-/// Runs the program on the process's own words and files, with these writers for its standard output
-/// and its standard error, and answers the status with which it ends. Progress lines show the memory.
+/// Runs the program on the process's own words and files, with these writers for its standard output and its standard
+/// error, and returns the exit status. Progress lines show the memory in use.
 #[tactic(auto, using(crate::proofs::RunLemmas::runs_some, crate::proofs::RunLemmas::runs_none))]
 pub fn run_process<
     O: Write,
@@ -44,12 +44,12 @@ pub fn run_process<
     }
 }
 
-/// What the process has for a run.
+/// The process as the host of a run.
 #[derive(Drop)]
 struct Process<'a, R, M> {
     rt: &'a R,
     memory: &'a M,
-    /// Which level of its search is the greatest.
+    /// The greatest level of its search.
     greatest: &'a GreatestLevel,
 }
 
@@ -119,17 +119,17 @@ impl<'a, R: AllocGlobal + Clock + Eprint + Files + Sync, M: Memory + Sync> Host
         checked: &Checked,
         gate: &Watch<'a, R, M>,
     ) {
-        let took = self.took(inputs.line, checked, gate.began);
+        let summary = self.summary(inputs.line, checked, gate.began);
         let style = Style {
             full: inputs.line.full,
             coverage: inputs.line.coverage,
         };
         let names = names(inputs.line);
         let (module, config) = (inputs.module, inputs.config);
-        // Nobody hears of what fails here: the report is out.
+        // A failure here isn't reported: the report is written already.
         let _ = explain(self.rt.alloc(), err, &names, module, config, checked, style);
-        if let Some(took) = took {
-            let _ = writeln!(err, "{took}");
+        if let Some(summary) = summary {
+            let _ = writeln!(err, "{summary}");
         }
     }
 
@@ -161,7 +161,7 @@ impl<'a, R: AllocGlobal + Clock + Eprint + Files + Sync, M: Memory + Sync> Host
     }
 }
 
-/// The names of the two files, for a reader.
+/// The names of the two files, for the user.
 fn names<'a>(line: &Line<'a>) -> FileNames<'a> {
     FileNames {
         module: line.module,
@@ -170,14 +170,19 @@ fn names<'a>(line: &Line<'a>) -> FileNames<'a> {
 }
 
 impl<R: Clock, M> Process<'_, R, M> {
-    /// What a long run went through, and how long it took.
-    fn took(&self, line: &Line<'_>, checked: &Checked, began: Option<Instant>) -> Option<Took> {
+    /// The summary of a long run.
+    fn summary(
+        &self,
+        line: &Line<'_>,
+        checked: &Checked,
+        began: Option<Instant>,
+    ) -> Option<RunSummary> {
         let Checked::Answered(answered) = checked else {
             return None;
         };
         let counts = answered.answer.counts();
         let greatest = self.greatest.greatest(line.options.cut());
-        Took::since(self.rt, began, counts.levels, counts.states, greatest)
+        RunSummary::since(self.rt, began, counts.levels, counts.states, greatest)
     }
 }
 
@@ -190,7 +195,7 @@ fn words<R: AllocGlobal + Env>(rt: &R) -> io::Result<Vec<String>> {
     Ok(words)
 }
 
-/// Says why there are no words.
+/// Says why the words can't be read.
 fn tell_no_words<E: Write>(error: &io::Error, err: &mut E) -> u8
     ensures { result ≡ 21 }
 {

@@ -20,15 +20,14 @@ use std::thread::Threads;
 use tla_check::{Line, NoGate, check, write_report};
 use tla_line::{NoLine, read_words};
 
-/// The status of a run that gives no whole report: for its command line, a file or a failed write.
+/// The status of a run without a complete report, because of its command line, a file or a failed write.
 pub const NO_REPORT: u8 = 21;
 
-/// Runs the program on the words of its command line, its own name first, and answers the status with
-/// which it ends. The report goes to `out`, and all else to `err`.
+/// Runs the program on the words of its command line, its own name first, and returns the exit status. The report goes
+/// to `out`, and all else to `err`.
 ///
-/// Each file is read whole, in at most 1,000,000 reads of up to 65,536 bytes. The files that the line asks
-/// for are created before the search, and written after the report. A failed write of the report ends the
-/// run.
+/// Each file is read whole, in at most 1,000,000 reads of up to 65,536 bytes. The output files are created before the
+/// search, and written after the report. A failed write of the report ends the run.
 #[tactic(auto, using(crate::proofs::RunLemmas::runs_line))]
 pub fn run<H: Host, O: Write, E: Write, R: Threads + Wait + Sync>(
     rt: &R,
@@ -176,7 +175,7 @@ fn run_openly<H: Host, O: Write, E: Write, R: Threads + Wait + Sync>(
     checked.status()
 }
 
-/// The bytes of the file of a name, if it can be read. A file of its kind has this ending.
+/// The bytes of the file of a name, if it can be read. A file of its kind has the extension `ending`.
 fn read<'a, H: Host>(
     alloc: Global,
     host: &H,

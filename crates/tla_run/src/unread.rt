@@ -10,7 +10,7 @@ use std::io::ErrorKind;
 pub struct UnreadFile<'a> {
     pub name: &'a str,
     pub cause: Unread,
-    /// The ending that a file of its kind has.
+    /// The extension of files of its kind.
     pub ending: &'static str,
 }
 
@@ -19,11 +19,11 @@ pub struct UnreadFile<'a> {
 pub enum Unread {
     /// No file has this name.
     Missing,
-    /// A part of its path is no folder.
+    /// A component of its path is no folder.
     Path,
     Folder,
     NotPermitted,
-    /// Its end doesn't come within 1,000,000 reads.
+    /// The end isn't reached within 1,000,000 reads.
     Endless,
     Memory,
     /// It can't be opened, or a read fails, for another reason.
@@ -52,7 +52,7 @@ impl Unread {
         }
     }
 
-    /// The line that says it.
+    /// The line for the user.
     pub fn text(self) -> &'static str
         ensures { result.now ≡ cause_text self }
     {

@@ -1,4 +1,4 @@
-//! The texts of errors.
+//! The texts of error types.
 
 use std::test::Fail;
 use tla_board::BoardError;

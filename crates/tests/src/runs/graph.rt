@@ -7,7 +7,7 @@ use std::thread::Threads;
 use tla_check::{Checked, NoGate, Options, check};
 use tla_run::write_graph;
 
-/// One state more than a graph has.
+/// A specification with one state more than a graph can have.
 const CHAIN: &[u8] = b"---- MODULE Chain ----
 EXTENDS Naturals
 VARIABLES x
@@ -21,7 +21,7 @@ NEXT Next
 CHECK_DEADLOCK FALSE
 ";
 
-/// A line of a graph.
+/// The first lines of a graph.
 const HEAD: &str =
     "    // 10000 states, 9999 steps. There are more states: these are the first ones.\n";
 

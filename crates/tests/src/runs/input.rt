@@ -1,10 +1,10 @@
-//! Files as they are read whole.
+//! Reading whole files.
 
 use std::io;
 use std::io::{ErrorKind, Read};
 use tla_run::{ReadFault, read_whole};
 
-/// Gives `left` bytes, at most `most` at a read, and then its end or a failure.
+/// Returns `left` bytes, at most `most` per read, and then the end or a failure.
 #[derive(Drop)]
 struct Source {
     left: usize,
@@ -28,7 +28,7 @@ impl Read for Source {
     }
 }
 
-/// How many bytes a source gives, how many at a read, whether it fails then, what is answered, and after how many reads.
+/// The bytes of a source, the most per read, whether it fails then, the result, and the number of reads.
 static SOURCES: [(usize, usize, bool, Result<usize, ReadFault>, usize); 6] = [
     (0, 3, false, Ok(0), 1),
     (10, 3, false, Ok(10), 5),

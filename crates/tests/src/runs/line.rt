@@ -1,10 +1,10 @@
-//! The words of a call, and what they name.
+//! The words of a call, and the line that they mean.
 
 use std::test::Fail;
 use tla_check::{Line, LineFault, read_line};
 use tla_line::{NumberOption, is_quiet, read_words};
 
-/// Words, and what they name.
+/// Words, and the line that they mean.
 #[derive(Clone, Copy)]
 struct Row {
     words: &'static [&'static str],
@@ -154,7 +154,7 @@ static ROWS: [Row; 15] = [
     },
 ];
 
-/// Whether a line is what its row names.
+/// Whether a line is the one of its row.
 fn is_named(line: &Line<'_>, row: &Row) -> bool {
     line.module == row.module
         && line.config == row.config
@@ -177,7 +177,7 @@ fn names_files_and_numbers(rt: HostRuntime) -> Result<(), Fail> {
     Ok(())
 }
 
-/// Words that name no line, and whether a number is at fault: a text that is none, or one outside its limits.
+/// Words that mean no line, and whether the fault is a number: a text that is none, or one out of range.
 static REFUSED: [(&[&str], bool); 22] = [
     (&["tlacheck", "M.tla", "M.cfg", "--workers", "0"], true),
     (&["tlacheck", "M.tla", "M.cfg", "--workers", "65"], true),
@@ -234,7 +234,7 @@ fn refuses_words_and_numbers(rt: HostRuntime) {
     }
 }
 
-/// Words that `clap` takes, and the option that has a bad number: the first of the three.
+/// Words that `clap` accepts, and the first of the three options that has a bad number.
 static BAD_NUMBERS: [(&[&str], NumberOption); 4] = [
     (
         &["tlacheck", "M", "C", "--workers=65"],
@@ -264,7 +264,7 @@ fn names_the_option_of_a_bad_number(rt: HostRuntime) {
     assert!(rt; lacking.is_some_and(|no_line| no_line.bad_number.is_none()));
 }
 
-/// Words, an option, and whether the words give it a bad number.
+/// Words, an option, and whether it has a bad number in them.
 static GIVEN: [(&[&str], NumberOption, bool); 8] = [
     (
         &["tlacheck", "M.tla", "--cut", "0"],

@@ -1,4 +1,4 @@
-//! What is said of words that name no line.
+//! The messages for words that mean no line.
 
 pub const MISSING: &str = "error: the following required arguments were not provided:
   <CONFIG>

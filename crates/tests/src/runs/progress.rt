@@ -1,4 +1,4 @@
-//! A search by a clock that goes on by a second at each look.
+//! Progress lines, with a clock that advances by a second at each reading.
 
 use std::fmt::Display;
 use std::io;
@@ -6,7 +6,7 @@ use std::io::Eprint;
 use std::sync::atomic::{AtomicU64, Ordering};
 use std::test::Fail;
 use std::time::{Clock, Duration, Instant};
-use tla_progress::{Greatest, GreatestLevel, NoMemory, Progress, Seen, Took};
+use tla_progress::{Greatest, GreatestLevel, NoMemory, Progress, ProgressLine, RunSummary};
 use tla_workers::{Gate, GatePlace, Pass};
 
 /// A clock, and a standard error that counts its lines.
@@ -37,7 +37,7 @@ impl Eprint for Seconds {
     }
 }
 
-/// A search of this many levels, each of three pieces. It leaves a piece at each second from the first one on.
+/// A search of this many levels, each of three pieces. It finishes a piece at each second from the first one on.
 fn search_levels(rt: &Seconds, began: Option<Instant>, levels: u64, greatest: &GreatestLevel) {
     let gate = Progress::new(rt, &NoMemory, began, 10, greatest);
     for number in 0..levels.saturating_mul(3) {
@@ -51,7 +51,7 @@ fn search_levels(rt: &Seconds, began: Option<Instant>, levels: u64, greatest: &G
     }
 }
 
-/// How many lines a search of this many levels writes, and which of them is the greatest.
+/// The number of lines that a search of this many levels writes, and the greatest level.
 fn lines(is_shown: bool, levels: u64) -> (u64, Option<Greatest>) {
     let rt = Seconds {
         looks: AtomicU64::new(0),
@@ -76,7 +76,7 @@ fn writes_when_it_is_due(rt: HostRuntime) {
     assert!(rt; lines(false, 53) == (0, None));
 }
 
-const SEEN: Seen = Seen {
+const LINE: ProgressLine = ProgressLine {
     seconds: 7,
     levels: 3,
     pass: Pass::Steps,
@@ -86,10 +86,10 @@ const SEEN: Seen = Seen {
     memory: Some(3072),
 };
 
-const SHOWN: &str =
+const LINE_TEXT: &str =
     "tlacheck: 7 s, level 3, steps: at least 2048 states found, at most 1024 left in the level, 500 a second, 3 MB";
 
-const TOOK: Took = Took {
+const SUMMARY: RunSummary = RunSummary {
     milliseconds: 2500,
     levels: 12,
     states: 5000,
@@ -99,21 +99,21 @@ const TOOK: Took = Took {
     }),
 };
 
-const TOOK_SHOWN: &str =
+const SUMMARY_TEXT: &str =
     "tlacheck: 12 levels, 5000 states in 2 s, 2000 a second; level 9 is the greatest, with at most 2048 states";
 
 #[test]
 fn the_lines(rt: HostRuntime) -> Result<(), Fail> {
-    assert!(rt; format!(in rt.alloc(); "{SEEN}")?.as_str() == SHOWN);
-    assert!(rt; format!(in rt.alloc(); "{TOOK}")?.as_str() == TOOK_SHOWN);
+    assert!(rt; format!(in rt.alloc(); "{LINE}")?.as_str() == LINE_TEXT);
+    assert!(rt; format!(in rt.alloc(); "{SUMMARY}")?.as_str() == SUMMARY_TEXT);
     let clock = Seconds {
         looks: AtomicU64::new(0),
         lines: AtomicU64::new(0),
     };
     let began = Instant::now(&clock).ok();
-    assert!(rt; Took::since(&clock, began, 2, 6, None).is_none());
-    let took = Took::since(&clock, began, 2, 6, None).ok_or("none")?;
+    assert!(rt; RunSummary::since(&clock, began, 2, 6, None).is_none());
+    let summary = RunSummary::since(&clock, began, 2, 6, None).ok_or("none")?;
     let shown = "tlacheck: 2 levels, 6 states in 2 s, 3 a second";
-    assert!(rt; format!(in rt.alloc(); "{took}")?.as_str() == shown);
+    assert!(rt; format!(in rt.alloc(); "{summary}")?.as_str() == shown);
     Ok(())
 }

@@ -1,4 +1,4 @@
-//! Reports of answers that no text has.
+//! Reports of answers that no check returns.
 ghost use Rattle.std.specs.Prelude.{◌≡◌, length, IfOk};
 ghost use Rattle.tla_verdict.specs.IsNamed.{AreWhole, IsNamed};
 
@@ -25,7 +25,7 @@ fn state(alloc: Global, value: i64) -> Result<State, AllocError>
     Ok(State::new(values))
 }
 
-// The one state in which the one variable has this value.
+// A trace of one state, in which the one variable has this value.
 fn one_state(alloc: Global, value: i64) -> Result<Trace, AllocError>
     ensures { IfOk result (λ t. AreWhole 1 t) }
 {
@@ -50,7 +50,7 @@ fn about_x(alloc: Global, answer: Answer) -> Result<Checked, AllocError>
     }))
 }
 
-// A variable that isn't set where an invariant asks for it.
+// An invariant faults because a variable isn't set.
 fn lacking(alloc: Global) -> Result<Checked, AllocError> {
     let fault = Fault {
         code: FaultCode::Unassigned,
@@ -69,7 +69,7 @@ fn lacking(alloc: Global) -> Result<Checked, AllocError> {
     about_x(alloc, answer)
 }
 
-// Whether this is the status and the report of what was checked.
+// Whether this is the status and the report of a result.
 fn is_reported(alloc: Global, checked: Checked, status: u8, report: &str) -> bool {
     let mut out = Vec::new(alloc);
     let result = write_report(&checked, &mut out);

@@ -1,5 +1,5 @@
-//! What each run writes to its two writers and to the files that it is asked for, and its status. The reports were worked
-//! out by hand.
+//! Whole runs: what each writes to its two writers and to its output files, and its status. The reports were worked out
+//! by hand.
 
 use crate::runs::line_texts::{
     HELP, MISSING, MISSING_AND_BAD_CUT, MISSING_BESIDE, OPTION_OF_TLC, UNKNOWN_OPTION, VERSION,
@@ -14,7 +14,7 @@ use std::test::Fail;
 use std::thread::Threads;
 use tla_run::{Checked, Host, Inputs, Line, NoGate, run};
 
-// A file of memory, one whose reading fails, one without an end, and one that is a folder.
+// A file in memory, one whose reads fail, one without an end, and one that is a folder.
 #[derive(Clone, Copy)]
 enum Source<'a> {
     Text(&'a [u8]),
@@ -33,7 +33,7 @@ impl Read for Source<'_> {
     }
 }
 
-/// A file that was created. What is written to it is kept by its host.
+/// A created file. Its host keeps what is written to it.
 #[derive(Drop)]
 struct Kept<'a> {
     texts: &'a RefCell<Vec<u8>>,
@@ -57,7 +57,7 @@ impl Write for Kept<'_> {
     }
 }
 
-/// Files by their names, what was written to those that were created, and how often a gate was asked for.
+/// Files by their names, the contents of the created ones, and the number of gates requested.
 #[derive(Drop)]
 struct Memory<'a> {
     files: &'a [(&'a str, Source<'a>)],
@@ -223,7 +223,7 @@ static FILES: [(&str, Source<'static>); 13] = [
     ("specs/Queue.tla", Source::Text(COUNTER)),
 ];
 
-/// Words, the status of a run on them, and what goes to its two writers and to the files that it creates.
+/// Words, the status of a run on them, and what it writes to its two writers and to the files that it creates.
 #[derive(Clone, Copy)]
 struct Row {
     words: &'static [&'static str],
@@ -233,7 +233,7 @@ struct Row {
     written: &'static str,
 }
 
-/// A report that is explained.
+/// A row with a report that is explained.
 const EXPLAINED: Row = Row {
     words: &["tlacheck", "M.tla", "M.cfg"],
     status: 0,
@@ -242,7 +242,7 @@ const EXPLAINED: Row = Row {
     written: "",
 };
 
-/// No report.
+/// A row without a report.
 const SILENT: Row = Row {
     words: &[],
     status: 21,
@@ -540,7 +540,7 @@ fn words_of(alloc: Global, words: &[&str]) -> Result<Vec<String>, AllocError> {
     Ok(list)
 }
 
-/// What a run writes, and what it asks its host for.
+/// What a run writes, and what it requests of its host.
 #[derive(Drop)]
 struct Outcome {
     status: u8,
@@ -577,7 +577,7 @@ fn outcome_of<R: Threads + Wait + Sync>(
     })
 }
 
-/// The first of the rows on whose words a run doesn't write what the row says.
+/// The first row whose run doesn't write what the row says.
 fn first_wrong<R: Threads + Wait + Sync>(
     rt: &R,
     alloc: Global,
@@ -617,7 +617,7 @@ fn runs_on_words_that_name_no_line(rt: HostRuntime) -> Result<(), Fail> {
     Ok(())
 }
 
-/// Under `--quiet` no gate is asked for, so no clock is read.
+/// With `--quiet` no gate is requested, so no clock is read.
 #[test]
 fn a_quiet_run_asks_for_no_gate(rt: HostRuntime) -> Result<(), Fail> {
     let alloc = rt.alloc();
@@ -628,7 +628,7 @@ fn a_quiet_run_asks_for_no_gate(rt: HostRuntime) -> Result<(), Fail> {
     Ok(())
 }
 
-/// The status, how many bytes of the report went out, and what is said of it, where its writer has this much room.
+/// The status, the number of bytes of the report written, and the message, if the writer has this much room.
 fn cut_short<R: Threads + Wait + Sync>(
     rt: &R,
     alloc: Global,

@@ -5,14 +5,14 @@ use std::sync::Wait;
 use std::thread::Threads;
 use tla_check::{Gate, NoGate, Options, check_and_report};
 
-/// The workers of a check, and how many states a piece has.
+/// The number of workers of a check, and of states in a piece.
 #[derive(Clone, Copy)]
 pub struct Crew {
     pub workers: u64,
     pub cut: u64,
 }
 
-/// How many states a check may find.
+/// The limit on the states of a check.
 const LIMIT: u64 = 100_000;
 
 /// Whether the check of a specification by these workers ends with its status and its report.

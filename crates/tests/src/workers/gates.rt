@@ -4,24 +4,24 @@ use std::sync::atomic::{AtomicU64, Ordering};
 use std::thread::yield_now;
 use tla_check::{Gate, GatePlace, Pass};
 
-/// How often a held worker looks whether it may go on, at most.
+/// The most times that a held worker tests whether it may continue.
 const TURNS: u64 = 1_000_000_000;
 
 /// Which pieces are held.
 #[derive(Clone, Copy)]
 pub enum Held {
-    /// The first that is entered.
+    /// The first piece that is entered.
     First,
-    /// Those of these numbers.
+    /// The pieces with these numbers.
     Pieces { from: u64, to: u64 },
 }
 
-/// What lets the held pieces go.
+/// What releases the held pieces.
 #[derive(Clone, Copy)]
 pub enum Until {
-    /// So many of them were entered.
+    /// This many held pieces were entered.
     Entered(u64),
-    /// So many pieces were left.
+    /// This many pieces were left.
     Left(u64),
     /// This piece was left.
     LeftPiece(u64),
@@ -43,7 +43,7 @@ pub struct Holds {
     /// How many held pieces were dropped, and how many others.
     held_dropped: AtomicU64,
     others_dropped: AtomicU64,
-    /// How many pieces went on though nothing let them go.
+    /// How many pieces continued although nothing released them.
     late: AtomicU64,
 }
 

@@ -1,5 +1,5 @@
-//! Checks whose gates hold pieces: that workers are at work at once, that pieces are dropped, that shards are merged side
-//! by side, that a piece has as many states as was asked for, and that the gate gets the number of each level.
+//! Checks whose gates hold pieces: workers run at the same time, pieces are dropped, shards are merged in parallel, a
+//! piece has as many states as the options say, and the gate gets the number of each level.
 
 use crate::specifications::{EIGHT_BAD, JUGS, NONE_BAD, Specification, TWO_BAD};
 use crate::workers::checks::{Crew, ends_as_wanted};
@@ -8,7 +8,7 @@ use std::sync::Wait;
 use std::thread::Threads;
 use tla_check::Pass;
 
-/// A check of a specification, and what its gate counts in one pass over one level.
+/// A check of a specification, and the counts of its gate in one pass over one level.
 #[derive(Clone, Copy)]
 struct Row {
     name: &'static str,
@@ -21,7 +21,7 @@ struct Row {
     /// How many held pieces are entered, and how many pieces are left.
     entered: u64,
     left: u64,
-    /// How many held pieces are dropped, and how many others, where that doesn't depend on which worker comes first.
+    /// How many held pieces are dropped, and how many others, if that doesn't depend on which worker comes first.
     dropped: Option<(u64, u64)>,
 }
 
@@ -45,7 +45,7 @@ const MEETING: Row = Row {
 
 /// Three shards of a level, which one thread merges.
 const MERGE: Row = Row {
-    name: "the first shard that one thread merges is told by its number",
+    name: "the gate gets the number of the first shard that one thread merges",
     specification: NONE_BAD,
     crew: Crew {
         workers: 3,
@@ -62,7 +62,7 @@ const MERGE: Row = Row {
 
 const THREE: Crew = Crew { workers: 3, cut: 1 };
 
-/// Ten states, of which a piece has three.
+/// Ten states, in pieces of three.
 const FOUR_PIECES: Row = Row {
     name: "ten states make four pieces of three, at whose invariants workers look",
     specification: NONE_BAD,
@@ -126,7 +126,7 @@ static ROWS: [Row; 22] = [
         ..MEETING
     },
     Row {
-        name: "the least of two bad states is told, though the other is found first",
+        name: "the least of two bad states is reported, though the other is found first",
         held: Held::Pieces { from: 2, to: 2 },
         until: Until::LeftPiece(9),
         entered: 1,
@@ -159,28 +159,28 @@ static ROWS: [Row; 22] = [
     },
     MERGE,
     Row {
-        name: "the second shard that one thread merges is told by its number",
+        name: "the gate gets the number of the second shard that one thread merges",
         held: Held::Pieces { from: 1, to: 1 },
         ..MERGE
     },
     Row {
-        name: "the third shard that one thread merges is told by its number",
+        name: "the gate gets the number of the third shard that one thread merges",
         held: Held::Pieces { from: 2, to: 2 },
         ..MERGE
     },
     Row {
-        name: "the first shard of three threads is told by its number",
+        name: "the gate gets the number of the first shard of three threads",
         crew: THREE,
         ..MERGE
     },
     Row {
-        name: "the second shard of three threads is told by its number",
+        name: "the gate gets the number of the second shard of three threads",
         crew: THREE,
         held: Held::Pieces { from: 1, to: 1 },
         ..MERGE
     },
     Row {
-        name: "the third shard of three threads is told by its number",
+        name: "the gate gets the number of the third shard of three threads",
         crew: THREE,
         held: Held::Pieces { from: 2, to: 2 },
         ..MERGE
@@ -212,7 +212,7 @@ static ROWS: [Row; 22] = [
     },
 ];
 
-/// Whether a check ends as its row says, and its gate let each held piece go in time.
+/// Whether a check ends as its row says, and its gate released each held piece in time.
 fn goes_as_wanted<R: AllocGlobal + Threads + Wait + Sync>(rt: &R, row: &Row) -> bool {
     let gate = Holds::new(row.level, row.pass, row.held, row.until);
     let ends = ends_as_wanted(rt, &row.specification, row.crew, &gate);

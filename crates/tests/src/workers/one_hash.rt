@@ -58,8 +58,8 @@ fn is_wanted(answer: &Result<Answer, SearchError>) -> bool {
     }
 }
 
-/// Whether the search of the jugs answers as it should, where all states have one hash. (The model is let go by `drop`, which
-/// is proved once.)
+/// Whether the search of the jugs has the right answer if all states have the same hash. (The model is dropped by a
+/// call of `drop`, which is proved once.)
 fn answers_as_wanted<R: Threads + Wait + Sync>(rt: &R, alloc: Global, workers: u64) -> bool {
     let Some(options) = Options::new(workers, 1, 100) else {
         return false;

@@ -3,7 +3,7 @@
 use crate::writer::{ENDS, End, Narrow};
 use counted_writer::{ShortWrite, put, put_number};
 
-// Each count of bytes that go out, at each step and each kind of refusal.
+// Each number of bytes written, for each step and each kind of refusal.
 #[test]
 fn ends_at_the_first_refusal(rt: HostRuntime) {
     for end in &ENDS {

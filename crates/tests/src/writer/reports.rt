@@ -1,5 +1,5 @@
-//! Reports of whole checks, to writers that end, take few bytes a call or are interrupted once: what is written is a
-//! prefix, and its length is reported.
+//! Reports of whole checks, to writers that run full, take few bytes per call or are interrupted once: a prefix is
+//! written, and its length is returned.
 
 use crate::specifications::{COUNTER, JUGS, Specification, TWO};
 use crate::writer::{ENDS, Narrow};
@@ -9,7 +9,7 @@ use std::io::Write;
 use std::process::Abort;
 use tla_check::{Checked, NoGate, Options, WriteFault, check, write_report};
 
-/// Whether a report is written to such a writer as far as there is room, and its length is reported.
+/// Whether a report is written to such a writer as far as there is room, and its length is returned.
 fn is_cut(checked: &Checked, report: &[u8], room: usize, mut out: Narrow) -> bool {
     let result = write_report(checked, &mut out);
     if room < report.len() {
@@ -20,7 +20,7 @@ fn is_cut(checked: &Checked, report: &[u8], room: usize, mut out: Narrow) -> boo
     }
 }
 
-/// Writes a report with room for each number of its bytes, in each way.
+/// Writes a report with room for each number of its bytes, and each kind of end.
 fn assert_cuts(rt: &impl Abort, alloc: Global, checked: &Checked, report: &[u8]) {
     for step in [1, usize::MAX] {
         for end in &ENDS {
@@ -73,7 +73,7 @@ impl Write for Tally {
     }
 }
 
-/// Its trace has 15,001 states.
+/// A specification whose trace has 15,001 states.
 static CHAIN: &str = "---- MODULE Chain ----
 EXTENDS Naturals
 VARIABLE x

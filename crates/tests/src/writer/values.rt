@@ -17,7 +17,7 @@ fn steps(alloc: Global) -> Result<Value, ValueError> {
     Ok(Value::Fun(FunValue::from_pairs(alloc, pairs)?))
 }
 
-// Whether this many bytes of the text are written, and it ends at the first refusal.
+// Whether `room` bytes of the text are written, and the call ends at the first refusal.
 fn ends_at_the_first(alloc: Global, value: &Value, step: usize, room: usize, end: End) -> bool {
     let mut out = Narrow::new(alloc, step, room, end);
     let result = value.write_text(&mut out);
@@ -31,7 +31,7 @@ fn ends_at_the_first(alloc: Global, value: &Value, step: usize, room: usize, end
     }
 }
 
-// Each count of bytes that go out, also where a value is cut.
+// Each number of bytes written, also in the middle of a value.
 fn assert_ends(rt: &impl Abort, alloc: Global, value: &Value) {
     for end in &ENDS {
         for step in [1, 3, 90] {

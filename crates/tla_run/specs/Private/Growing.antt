@@ -1,4 +1,4 @@
--- A writer that got more bytes.
+-- A writer to which more bytes were added.
 use Rattle.std.specs.Prelude.{ℕ, List, Option}
 use Rattle.std.specs.Io.KnownBytes.{Appends}
 
