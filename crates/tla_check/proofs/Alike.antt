@@ -1,17 +1,11 @@
--- Two outcomes of one module and one configuration are alike.
+-- Two results for the same two texts are alike.
 use Rattle.std.proofs.Common.{◌≡◌, ℕ, Bool, true, false, not, ◌&&◌, List, [], ◌∷◌, Option, Some, None, Result, Ok, Err, inl, inr, is_some, refl, sym, ap, subst, ◌∙◌}
 use Rattle.std.specs.Prelude.{IsTrue, option_map}
-use Rattle.tla_lex.specs.Module.{header_end, closing, body}
-use Rattle.tla_lex.specs.Reads.{Reads}
-use Rattle.tla_lex.specs.Tokens.{NoTokens, IsFirstFault, not_utf8, no_header, in_body, no_closing_line}
+use Rattle.tla_lex.specs.Tokens.{NoTokens, IsFirstFault}
 use Rattle.tla_lex.specs.declared.error.LexError.{LexError}
-use Rattle.tla_lex.specs.declared.lexeme.Source.TheVariants as source
-use Rattle.tla_lex.specs.declared.scan.Stop.{Stop}
-use Rattle.tla_lex.specs.declared.scan.Stop.TheVariants.{End, Fault}
 use Rattle.tla_lex.specs.declared.token.Place.{Place}
-use Rattle.tla_lex.specs.declared.token.Token.{Token}
-use Rattle.tla_lex.proofs.Module.{body_none, fault_means_none}
-use Rattle.tla_lex.proofs.SoFar.{reads_once}
+use Rattle.tla_lex.proofs.FaultOnce.{fault_once}
+use Rattle.tla_lex.proofs.Module.{fault_means_none}
 use Rattle.tla_tree.specs.declared.word.Written.{Written}
 use Rattle.tla_tree.specs.Tree.{Tree}
 use Rattle.tla_tree.specs.Units.{UnitTree}
@@ -28,7 +22,6 @@ use Rattle.tla_config.specs.View.{ConfigTree}
 use Rattle.tla_items.specs.Cycles.{AreStraight, IsFirstCycle}
 use Rattle.tla_items.specs.References.{Reference, IsCircular, references}
 use Rattle.tla_names.specs.Refusal.{refusal_of}
-use Rattle.tla_defs.specs.Global.{global}
 use Rattle.tla_defs.specs.Model.{assumptions_of, invariants_named, constraints_named}
 use Rattle.tla_defs.specs.Refused as defs
 use Rattle.tla_defs.specs.Refused.{Behaviour, Named, Specified, behaviour, refused, IsOfSome, of_assumption, of_initial, of_action, of_invariant, of_constraint}
@@ -46,80 +39,28 @@ use Rattle.tla_report.specs.Report.{report, refusal_line}
 use Rattle.tla_report.specs.Status.{status_of}
 use Rattle.tla_check.proofs.Once.{configuration-once, no-tree, units-once}
 
--- ---- the first fault of a text is the only one
-none-some : {A : Type 0} (o : Option A) (x : A) → o ≡ None → o ≡ Some x → ⊥
-none-some o x h k = cc
-
 some-once : {A : Type 0} (o : Option A) (x y : A) → o ≡ Some x → o ≡ Some y → x ≡ y
 some-once o x y h k = cc
 
-same-fault : (e f : LexError) → (let s : Stop = Fault e in s ≡ Fault f) → e ≡ f
-same-fault e f h = cc
-
-same-end : (p q : Place) → (let s : Stop = End p in s ≡ End q) → p ≡ q
-same-end p q h = cc
-
-fault-end : (e : LexError) (p : Place) → Fault e ≡ End p → ⊥
-fault-end e p h = cc
-
-module _ (text : List ℕ) where
-  in-body-once : (from to : ℕ) (ts us : List Token) (e f : LexError) → header_end text ≡ Some from → header_end text ≡ Some to
-      → Reads source.Module (body text from) from ts (Fault e) → Reads source.Module (body text to) to us (Fault f) → e ≡ f
-  in-body-once from to ts us e f h k r q =
-      let same : to ≡ from = some-once (header_end text) to from k h in
-      same-fault e f (reads_once source.Module (body text from) from ts us (Fault e) (Fault f) r (subst (λ n. Reads source.Module (body text n) n us (Fault f)) same q)).1
-
-  body-or-end : (from to : ℕ) (ts us : List Token) (e : LexError) (end : Place) → header_end text ≡ Some from → header_end text ≡ Some to → closing text to ≡ None
-      → Reads source.Module (body text from) from ts (Fault e) → Reads source.Module text to us (End end) → ⊥
-  body-or-end from to ts us e end h k none r q =
-      let same : from ≡ to = some-once (header_end text) from to h k in
-      let moved : Reads source.Module (body text to) to ts (Fault e) = subst (λ n. Reads source.Module (body text n) n ts (Fault e)) same r in
-      fault-end e end (reads_once source.Module text to ts us (Fault e) (End end) (subst (λ b. Reads source.Module b to ts (Fault e)) (body_none text to none) moved) q).1
-
-  end-once : (from to : ℕ) (ts us : List Token) (p q : Place) → header_end text ≡ Some from → header_end text ≡ Some to
-      → Reads source.Module text from ts (End p) → Reads source.Module text to us (End q) → p ≡ q
-  end-once from to ts us p q h k r w =
-      let same : to ≡ from = some-once (header_end text) to from k h in
-      same-end p q (reads_once source.Module text from ts us (End p) (End q) r (subst (λ n. Reads source.Module text n us (End q)) same w)).1
-
-  fault-once : (e f : LexError) → IsFirstFault text e → IsFirstFault text f → e ≡ f
-  fault-once e f (not_utf8 h) (not_utf8 k) = h.1 ∙ sym k.1
-  fault-once e f (not_utf8 h) (no_header u n w) = absurd (h.0 u)
-  fault-once e f (not_utf8 h) (in_body from ts u n r) = absurd (h.0 u)
-  fault-once e f (not_utf8 h) (no_closing_line from ts end u n l r w) = absurd (h.0 u)
-  fault-once e f (no_header u n w) (not_utf8 h) = absurd (h.0 u)
-  fault-once e f (no_header u n w) (no_header v o x) = w ∙ sym x
-  fault-once e f (no_header u n w) (in_body from ts v o r) = absurd (none-some (header_end text) from n o)
-  fault-once e f (no_header u n w) (no_closing_line from ts end v o l r x) = absurd (none-some (header_end text) from n o)
-  fault-once e f (in_body from ts u n r) (not_utf8 h) = absurd (h.0 u)
-  fault-once e f (in_body from ts u n r) (no_header v o w) = absurd (none-some (header_end text) from o n)
-  fault-once e f (in_body from ts u n r) (in_body to us v o q) = in-body-once from to ts us e f n o r q
-  fault-once e f (in_body from ts u n r) (no_closing_line to us end v o l q w) = absurd (body-or-end from to ts us e end n o l r q)
-  fault-once e f (no_closing_line from ts end u n l r w) (not_utf8 h) = absurd (h.0 u)
-  fault-once e f (no_closing_line from ts end u n l r w) (no_header v o x) = absurd (none-some (header_end text) from o n)
-  fault-once e f (no_closing_line from ts end u n l r w) (in_body to us v o q) = absurd (body-or-end to from us ts f end o n l q r)
-  fault-once e f (no_closing_line from ts end u n l r w) (no_closing_line to us last v o k q x) =
-      let same : end ≡ last = end-once from to ts us end last n o r q in cc
-
 -- ---- refusals
-told-once : (of : Source) (under : Option RefusalCode) (at : Option Place) (word : Option (List ℕ)) (r s : Refusal) → CarriesOver of under at word r → CarriesOver of under at word s
+reported-once : (of : Source) (under : Option RefusalCode) (at : Option Place) (word : Option (List ℕ)) (r s : Refusal) → CarriesOver of under at word r → CarriesOver of under at word s
     → refusal_line r ≡ refusal_line s
-told-once of under at word r s a b =
+reported-once of under at word r s a b =
     let source : r.source ≡ s.source = a.source ∙ sym b.source in
     let code : r.code ≡ s.code = some-once under r.code s.code a.code b.code in
     let place : r.place ≡ s.place = some-once (option_map place_of at) r.place s.place a.place b.place in
     let name : r.name ≡ s.name = a.name ∙ sym b.name in
     cc
 
--- ---- which codes are told of what
+-- ---- which codes are reported of what
 abbrev is-first : Option RefusalCode → Bool
 is-first None = false
-is-first (Some told) = is_first_code told
+is-first (Some refusal_code) = is_first_code refusal_code
 
--- of these, one that names nothing
+-- of these, one without a name
 abbrev is-nameless : Option RefusalCode → Bool
 is-nameless None = false
-is-nameless (Some told) = is_first_code told && not (is_named_code told)
+is-nameless (Some refusal_code) = is_first_code refusal_code && not (is_named_code refusal_code)
 
 contrary : (b : Bool) → b ≡ true → b ≡ false → ⊥
 contrary b h k = cc
@@ -146,7 +87,7 @@ nameless-code : (c : DefsCode) → is-nameless (defs_code c) ≡ true → c ≡ 
 nameless-code code.BehaviourCount h = refl
 nameless-code _ h = (let z : ⊥ = cc in absurd z)
 
--- ---- the last steps name nothing, and are not for the behaviour
+-- ---- the last steps have no name, and are not for the behaviour
 abbrev IsLate : DefsError → Type 0
 IsLate e = (e.name ≡ None) × (e.code ≡ code.BehaviourCount → ⊥)
 
@@ -157,33 +98,33 @@ not-late e r first over late =
     late.1 (nameless-code e.code nameless)
 
 module _ (us : List UnitTree) (cs : List Statement) (e : DefsError) where
-  late-assumption : (ts : List Tree) → defs.IsOfAssumption (global us (items_of cs)) ts e → IsLate e
-  late-assumption [] x = absurd x
-  late-assumption (t ∷ ts) (inl x) = (x.name, λ k. rw k at x.cause)
-  late-assumption (t ∷ ts) (inr x) = late-assumption ts x
+  late-assumption : (σ : _) (ts : List Tree) → defs.IsOfAssumption σ ts e → IsLate e
+  late-assumption σ [] x = absurd x
+  late-assumption σ (t ∷ ts) (inl x) = (x.name, λ k. rw k at x.cause)
+  late-assumption σ (t ∷ ts) (inr x) = late-assumption σ ts x
 
-  late-predicate : (ws : List Written) → defs.IsOfPredicate (global us (items_of cs)) ws e → IsLate e
-  late-predicate [] x = absurd x
-  late-predicate (w ∷ ws) (inl x) = (x.name, λ k. rw k at x.cause)
-  late-predicate (w ∷ ws) (inr x) = late-predicate ws x
+  late-predicate : (σ : _) (ws : List Written) → defs.IsOfPredicate σ ws e → IsLate e
+  late-predicate σ [] x = absurd x
+  late-predicate σ (w ∷ ws) (inl x) = (x.name, λ k. rw k at x.cause)
+  late-predicate σ (w ∷ ws) (inr x) = late-predicate σ ws x
 
-  late-formula : IsOfSome us cs e → IsLate e
-  late-formula (of_assumption x) = late-assumption (assumptions_of us) x
-  late-formula (of_initial i a is x) = (x.name, λ k. rw k at x.cause)
-  late-formula (of_action i a is x) = (x.name, λ k. rw k at x.cause)
-  late-formula (of_invariant x) = late-predicate (invariants_named cs) x
-  late-formula (of_constraint x) = late-predicate (constraints_named cs) x
+  late-formula : (σ : _) → IsOfSome us cs σ e → IsLate e
+  late-formula σ (of_assumption x) = late-assumption σ (assumptions_of us) x
+  late-formula σ (of_initial i a is x) = (x.name, λ k. rw k at x.cause)
+  late-formula σ (of_action i a is x) = (x.name, λ k. rw k at x.cause)
+  late-formula σ (of_invariant x) = late-predicate σ (invariants_named cs) x
+  late-formula σ (of_constraint x) = late-predicate σ (constraints_named cs) x
 
-  late-form : (b : Result Behaviour Place) → defs.IsFormRefused us (items_of cs) b e → IsLate e
-  late-form (Ok (Specified p w)) (inl x) =
+  late-form : (σ : _) (b : Result Behaviour Place) → defs.IsFormRefused us (items_of cs) σ b e → IsLate e
+  late-form σ (Ok (Specified p w)) (inl x) =
       (sym (ap (λ (f : DefsError). f.name) x.0), λ k. let same = ap (λ (f : DefsError). f.code) x.0 ∙ k in (let z : ⊥ = cc in z))
-  late-form (Ok (Specified p w)) (inr x) = (x.0.name, λ k. let same = sym x.0.code ∙ k in (let z : ⊥ = cc in z))
-  late-form (Ok (Named i n)) x = absurd x
-  late-form (Err p) x = absurd x
+  late-form σ (Ok (Specified p w)) (inr x) = (x.0.name, λ k. let same = sym x.0.code ∙ k in (let z : ⊥ = cc in z))
+  late-form σ (Ok (Named i n)) x = absurd x
+  late-form σ (Err p) x = absurd x
 
   late-last : (b : Result Behaviour Place) → defs.IsLast us cs b e → IsLate e
-  late-last b (inl x) = late-form b x
-  late-last b (inr x) = late-formula x
+  late-last b (σ, at, inl x) = late-form σ b x
+  late-last b (σ, at, inr x) = late-formula σ x
 
 -- ---- a refusal of an earlier step is the only one
 module _ (ls : List Reference) where
@@ -211,7 +152,7 @@ same-config : (c d : ConfigTree) → c.statements ≡ d.statements → c.end ≡
 same-config c d statements end = λ i. record { statements = statements i; end = end i }
 
 module _ (text config : List ℕ) where
-  -- where the module has no tokens, its first fault is told
+  -- if the module has no tokens, its first fault is reported
   by-tokens : (r : Refusal) → NoTokens text → IsRefusal text config r → (e : LexError) × IsFirstFault text e × CarriesOver Module (lex_code e.code) e.place None r
   by-tokens r none (of_tokens e first over) = (e, first, over)
   by-tokens r none (of_module tokens e are why over) = absurd (none tokens are)
@@ -222,17 +163,17 @@ module _ (text config : List ℕ) where
   same-refusals r s none h k =
       let a = by-tokens r none h in
       let b = by-tokens s none k in
-      let same : b.0 ≡ a.0 = fault-once text b.0 a.0 b.1 a.1 in
-      told-once Module (lex_code a.0.code) a.0.place None r s a.2 (subst (λ (e : LexError). CarriesOver Module (lex_code e.code) e.place None s) same b.2)
+      let same : b.0 ≡ a.0 = fault_once text b.0 a.0 b.1 a.1 in
+      reported-once Module (lex_code a.0.code) a.0.place None r s a.2 (subst (λ (e : LexError). CarriesOver Module (lex_code e.code) e.place None s) same b.2)
 
-  -- module and configuration have one tree and one list of statements, of which the first refusal is the same
+  -- module and configuration have one tree and one list of statements, so the first refusal is the same
   same-models : (r s : Refusal) (us vs : List UnitTree) (c d : ConfigTree) (e f : DefsError) → IsTrue (is_first_code r.code) → us ≡ vs → c ≡ d
       → defs.IsRefusal us c e → defs.IsRefusal vs d f → CarriesOver e.source (defs_code e.code) e.place e.name r → CarriesOver f.source (defs_code f.code) f.place f.name s
       → refusal_line r ≡ refusal_line s
   same-models r s us vs c d e f first units config h k over past =
       let moved = subst (λ x. defs.IsRefusal vs x e) config (subst (λ x. defs.IsRefusal x c e) units h) in
       let same = refused-once vs d.statements (refused vs d) (behaviour d.statements d.end None None) e f (not-late e r first over) moved k in
-      told-once e.source (defs_code e.code) e.place e.name r s over (subst (λ (x : DefsError). CarriesOver x.source (defs_code x.code) x.place x.name s) (sym same) past)
+      reported-once e.source (defs_code e.code) e.place e.name r s over (subst (λ (x : DefsError). CarriesOver x.source (defs_code x.code) x.place x.name s) (sym same) past)
 
   -- a refusal under such a code is of no tokens, or of the model
   same-first : (r s : Refusal) → IsTrue (is_first_code r.code) → IsRefusal text config r → IsRefusal text config s → refusal_line r ≡ refusal_line s
@@ -270,7 +211,7 @@ module _ (text config : List ℕ) where
         status = refl;
         named = λ m named. absurd (h.none m named);
         no_tokens = λ none. same-refusals r s none h.stage k.stage;
-        first = λ told. same-first r s told h.stage k.stage;
+        first = λ refusal_code. same-first r s refusal_code h.stage k.stage;
       }
   come-out-alike limit (Answered a) NoMemory h k settled ended = absurd ended
   come-out-alike limit (Answered a) NoWorker h k settled ended = absurd ended

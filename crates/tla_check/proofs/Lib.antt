@@ -1,4 +1,4 @@
-pub mod Told
+pub mod Reported
 pub mod Named
 pub mod Stopped
 pub mod NamesIn

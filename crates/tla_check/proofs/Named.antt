@@ -1,4 +1,4 @@
--- The texts name one model at most, and none where a stage refuses.
+-- The texts denote at most one model, and none if a stage refuses.
 use Rattle.std.proofs.Common.{◌≡◌, ℕ, List, Option, Some, None, subst}
 use Rattle.tla_lex.specs.Tokens.{AreTokens}
 use Rattle.tla_lex.specs.declared.token.Place.{Place}
@@ -27,16 +27,16 @@ module _ (text config : List ℕ) (tokens : List Token) (only-tokens : (ts : Lis
   none-by-units : NoneSpellsWithin text tokens 200 → NameNone text config
   none-by-units none m h = none h.units h.tree.shallow (spells-these h.units h.tree)
 
-  pub none-by-module : (code : ParseCode) (place : Option Place) (name : Option (List ℕ)) (told : RefusalCode) → Justified text tokens code place name
-      → parse_code code ≡ Some told → NameNone text config
-  none-by-module parse.Unexpected place name told why e = none-by-units (λ us shallow. why us)
-  none-by-module parse.Precedence place name told why e = none-by-units (λ us shallow. why us)
-  none-by-module parse.Column place name told why e = none-by-units (λ us shallow. why us)
-  none-by-module parse.Nesting place name told why e = none-by-units why
-  none-by-module parse.LeftOut place name told (left-out, none) e = none-by-units (λ us shallow. none us)
-  none-by-module parse.NoMemory place name told why e = absurd (none-some told e)
+  pub none-by-module : (code : ParseCode) (place : Option Place) (name : Option (List ℕ)) (refusal_code : RefusalCode) → Justified text tokens code place name
+      → parse_code code ≡ Some refusal_code → NameNone text config
+  none-by-module parse.Unexpected place name refusal_code why e = none-by-units (λ us shallow. why us)
+  none-by-module parse.Precedence place name refusal_code why e = none-by-units (λ us shallow. why us)
+  none-by-module parse.Column place name refusal_code why e = none-by-units (λ us shallow. why us)
+  none-by-module parse.Nesting place name refusal_code why e = none-by-units why
+  none-by-module parse.LeftOut place name refusal_code (left-out, none) e = none-by-units (λ us shallow. none us)
+  none-by-module parse.NoMemory place name refusal_code why e = absurd (none-some refusal_code e)
 
-  -- no other units are spelled, and the configuration says no other statements
+  -- the tokens have no other units, and the configuration no other statements
   module _ (units : List UnitTree) (only-units : (us : List UnitTree) → SpellsModule text tokens us → us ≡ units)
       (statements : List Statement) (only-statements : (cs : List Statement) → IsConfiguration config cs → cs ≡ statements) where
     model-of-these : (m : ModelTree) → NameModel text config m → IsModel units statements m

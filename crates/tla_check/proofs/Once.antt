@@ -1,4 +1,4 @@
--- A module has one list of units at most, and a configuration one list of statements.
+-- A module has at most one list of units, and a configuration at most one list of statements.
 use Rattle.std.proofs.Common.{◌≡◌, ℕ, ◌+◌, Bool, true, false, List, [], ◌∷◌, ◌++◌, Option, Some, None, ◌⊎◌, inl, inr, length, slice_get, refl, sym, ap, subst, ◌∙◌, append_assoc, arith}
 use Rattle.std.proofs.lemmas.Option.{slice_get_past}
 use Rattle.tla_lex.specs.declared.lexeme.Source.TheVariants as source
@@ -108,7 +108,7 @@ module _ (text : List ℕ) (ts : List Token) where
       let front = same_pair (word_for c, place_for c) (word_for d, place_for d) (sym (spelled_front text ts at c to x) ∙ spelled_front text ts at d end y) in
       by-front c d at to end (ap (λ (z : Keyword × Place). z.0) front) (ap (λ (z : Keyword × Place). z.1) (sym front)) x y e f
 
-  -- no list goes on where a statement begins, nor at the end
+  -- no list continues where a statement begins, nor at the end
   front-ends : (c : Statement) (at to : ℕ) → SpellsStatement text ts c at to → Ends text ts at
   front-ends c at to x =
       let front = spelled_front text ts at c to x in
@@ -154,14 +154,14 @@ module _ (text : List ℕ) (tokens : List Token) (are : AreTokens text tokens) w
   spells-these us tree = subst (λ ts. SpellsModule text ts us) (tokens_once text tree.tokens tokens tree.are are) tree.spelled
 
   -- where the tokens are refused, no units within the depth spell them
-  pub no-tree : (code : ParseCode) (place : Option Place) (name : Option (List ℕ)) (told : RefusalCode) → Justified text tokens code place name → parse_code code ≡ Some told
+  pub no-tree : (code : ParseCode) (place : Option Place) (name : Option (List ℕ)) (refusal_code : RefusalCode) → Justified text tokens code place name → parse_code code ≡ Some refusal_code
       → (us : List UnitTree) → IsTreeOf text us → ⊥
-  no-tree parse.Unexpected place name told why e us tree = why us (spells-these us tree)
-  no-tree parse.Precedence place name told why e us tree = why us (spells-these us tree)
-  no-tree parse.Column place name told why e us tree = why us (spells-these us tree)
-  no-tree parse.Nesting place name told why e us tree = why us tree.shallow (spells-these us tree)
-  no-tree parse.LeftOut place name told why e us tree = why.1 us (spells-these us tree)
-  no-tree parse.NoMemory place name told why e us tree = let z : ⊥ = cc in z
+  no-tree parse.Unexpected place name refusal_code why e us tree = why us (spells-these us tree)
+  no-tree parse.Precedence place name refusal_code why e us tree = why us (spells-these us tree)
+  no-tree parse.Column place name refusal_code why e us tree = why us (spells-these us tree)
+  no-tree parse.Nesting place name refusal_code why e us tree = why us tree.shallow (spells-these us tree)
+  no-tree parse.LeftOut place name refusal_code why e us tree = why.1 us (spells-these us tree)
+  no-tree parse.NoMemory place name refusal_code why e us tree = let z : ⊥ = cc in z
 
 pub units-once : (text : List ℕ) (us vs : List UnitTree) → IsTreeOf text us → IsTreeOf text vs → vs ≡ us
 units-once text us vs a b =

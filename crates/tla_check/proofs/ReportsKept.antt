@@ -1,4 +1,4 @@
--- The report says `No error.` exactly where the model that the texts name is kept.
+-- The report says `No error.` exactly if the model that the texts denote is kept.
 use Rattle.std.proofs.Common.{◌≡◌, ◌↔◌, ℕ, List, refl, sym, subst, arith}
 use Rattle.tla_model.specs.ModelTree.{ModelTree}
 use Rattle.tla_verdict.specs.declared.answer.Answer.{Answer}

@@ -1,4 +1,4 @@
--- What ends a check is the refusal of the first stage that refuses.
+-- A check ends with the refusal of the first stage that refuses.
 use Rattle.std.proofs.Common.{◌≡◌, ◌≢◌, ◌⊎◌, ◌∙◌, ℕ, List, length, Option, Some, None, sym, subst, ap, ⊎_elim}
 use Rattle.tla_lex.specs.Places.{place_at}
 use Rattle.tla_lex.specs.Tokens.{AreTokens, IsFirstFault, NoTokens, no_memory}
@@ -25,7 +25,7 @@ use Rattle.tla_report.specs.declared.checked.RefusalCode.{RefusalCode}
 use Rattle.tla_report.specs.declared.checked.Checked.{Checked}
 use Rattle.tla_report.specs.declared.checked.Checked.TheVariants.{Answered, Refused, NoMemory, NoWorker}
 use Rattle.tla_check.specs.CarriesOver.{CarriesOver, EndsBy, lex_code, parse_code, defs_code}
-use Rattle.tla_check.proofs.Told.{not-lex-memory, not-memory}
+use Rattle.tla_check.proofs.Reported.{not-lex-memory, not-memory}
 use Rattle.tla_check.specs.Checks.{IsTreeOf, of_tokens, of_module, of_configuration, of_model, IsStopped, IsFound, IsChecked, NameNone, NameOnly}
 
 module _ (text config : List ℕ) where
@@ -40,7 +40,7 @@ module _ (text config : List ℕ) where
   stopped-tokens e NoWorker why none ends = absurd ends
 
   pub stopped-module : (tokens : List Token) (e : ParseError) (checked : Checked) → AreTokens text tokens → Justified text tokens e.code e.place e.name
-      → ((told : RefusalCode) → parse_code e.code ≡ Some told → NameNone text config)
+      → ((refusal_code : RefusalCode) → parse_code e.code ≡ Some refusal_code → NameNone text config)
       → EndsBy Module (parse_code e.code) e.place e.name checked → IsStopped text config checked
   stopped-module tokens e (Answered a) are why none ends = absurd ends
   stopped-module tokens e (Refused r) are why none ends = record { stage = of_module tokens e are why ends; none = none r.code ends.code }

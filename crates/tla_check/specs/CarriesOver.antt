@@ -50,9 +50,9 @@ defs_code defs.ExpansionTooLarge = Some refusal.ExpansionTooLarge
 defs_code defs.Memory = None
 
 -- a refusal that is reported has a place, and a name exactly if the report prints one
-abbrev pub IsTold : Option RefusalCode → Option text.Place → Option (List ℕ) → Type 0
-IsTold None place name = ⊤
-IsTold (Some code) place name = IsSome place × (is_some name ≡ is_named_code code)
+abbrev pub IsReportable : Option RefusalCode → Option text.Place → Option (List ℕ) → Type 0
+IsReportable None place name = ⊤
+IsReportable (Some code) place name = IsSome place × (is_some name ≡ is_named_code code)
 
 abbrev pub place_of : text.Place → Place
 place_of p = record { line = p.line; column = p.column }
@@ -64,7 +64,7 @@ pub record CarriesOver (of : Source) (under : Option RefusalCode) (at : Option t
   pub place : option_map place_of at ≡ Some r.place
   pub name : r.name ≡ word
 
--- a stage's refusal ends the check; the answer that memory ran out is given only if the stage gave it
+-- a stage's refusal ends the check; the check runs out of memory only if the stage did
 abbrev pub EndsBy : Source → Option RefusalCode → Option text.Place → Option (List ℕ) → Checked → Type 0
 EndsBy source code place name (Answered a) = ⊥
 EndsBy source code place name (Refused r) = CarriesOver source code place name r

@@ -1,4 +1,4 @@
-//! The codes of the stages, as a report has them. That memory ran out is none.
+//! The codes of the stages as codes of a report. That memory ran out has none.
 ghost use Rattle.std.specs.Prelude.{◌≡◌};
 ghost use Rattle.tla_check.specs.CarriesOver.{defs_code, lex_code, parse_code};
 

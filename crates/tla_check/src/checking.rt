@@ -5,7 +5,7 @@ ghost use Rattle.tla_model.specs.ModelOf.{predicate_of};
 ghost use Rattle.tla_model.specs.Models.{model_of};
 ghost use Rattle.counted_writer.specs.Puts.{AddsFirst};
 ghost use Rattle.std.specs.Io.KnownBytes.{Appends};
-ghost use Rattle.tla_check.specs.CarriesOver.{EndsBy, IsTold, defs_code, lex_code, parse_code};
+ghost use Rattle.tla_check.specs.CarriesOver.{EndsBy, IsReportable, defs_code, lex_code, parse_code};
 ghost use Rattle.tla_check.specs.Checks.{IsChecked, IsFound, IsStopped, NameOnly, names_in};
 ghost use Rattle.tla_report.specs.Codes.{is_named_code};
 ghost use Rattle.tla_report.specs.Report.{report};
@@ -31,9 +31,9 @@ use tla_search::{Gate, Options, SearchError, search};
 use tla_tree::Word;
 use tla_value::{Text, ValueError};
 
-/// Checks a module and a configuration: the answer to the search of the model that they denote, or the first refusal of
-/// tokens, module, configuration and model, in this order. It is the same for every number of workers, every cut, every
-/// gate and every order of the workers' steps.
+/// Checks a module and a configuration. Returns the answer of the search of the model that they denote, or the first
+/// refusal of tokens, module, configuration and model, in this order. The result is the same for every number of
+/// workers, every cut, every gate and every schedule.
 pub fn check<G: Gate, R: Threads + Wait + Sync>(
     rt: &R,
     alloc: Global,
@@ -54,7 +54,7 @@ pub fn check<G: Gate, R: Threads + Wait + Sync>(
     }
 }
 
-/// The model that two texts denote, or what stops the check.
+/// The model that two texts denote, or the result of the check if there is none.
 fn read_model(alloc: Global, module: &[u8], config: &[u8]) -> Result<Model, Checked>
     ensures model { IfOk result (λ m. NameOnly «module».now config.now (model_of m)) }
     ensures stopped { IfErr result (IsStopped «module».now config.now) }
@@ -78,7 +78,7 @@ fn read_model(alloc: Global, module: &[u8], config: &[u8]) -> Result<Model, Chec
 }
 
 fn stopped_by_tokens(error: LexError) -> Checked
-    requires { IsTold (lex_code error.code) error.place None }
+    requires { IsReportable (lex_code error.code) error.place None }
     ensures { EndsBy source.Module (lex_code error.code) error.place None result }
 {
     match lex_code(error.code) {
@@ -88,7 +88,7 @@ fn stopped_by_tokens(error: LexError) -> Checked
 }
 
 fn stopped_by_module(error: ParseError) -> Checked
-    requires { IsTold (parse_code error.code) error.place error.name }
+    requires { IsReportable (parse_code error.code) error.place error.name }
     ensures { EndsBy source.Module (parse_code error.code) error.place error.name result }
 {
     match parse_code(error.code) {
@@ -98,7 +98,7 @@ fn stopped_by_module(error: ParseError) -> Checked
 }
 
 fn stopped_by_definitions(error: DefsError) -> Checked
-    requires { IsTold (defs_code error.code) error.place error.name }
+    requires { IsReportable (defs_code error.code) error.place error.name }
     ensures { EndsBy error.source (defs_code error.code) error.place error.name result }
 {
     match defs_code(error.code) {
@@ -150,7 +150,7 @@ fn name_of_text(text: Option<Text>) -> Option<RefusalName>
     }
 }
 
-/// The answer to the search of a model.
+/// The answer of the search of a model.
 fn answered<G: Gate, R: Threads + Wait + Sync>(
     rt: &R,
     alloc: Global,
@@ -207,7 +207,7 @@ fn predicate_names(alloc: Global, predicates: &[StatePredicate]) -> Result<Names
 
 /// Checks two texts, writes the report and returns the exit status.
 ///
-/// The first write that fails or takes no byte ends the report.
+/// The first write that fails or takes no byte ends the report with an error.
 pub fn check_and_report<W: Write, G: Gate, R: Threads + Wait + Sync>(
     rt: &R,
     alloc: Global,
@@ -217,7 +217,7 @@ pub fn check_and_report<W: Write, G: Gate, R: Threads + Wait + Sync>(
     gate: &G,
     out: &mut W,
 ) -> Result<u8, WriteFault>
-    // What was written is the report of the right answer for the two texts, and the status is its status.
+    // The bytes written are the report of the right answer for the two texts, and the status is that of this answer.
     ensures ok { IfOk result (λ status. (checked : Checked)
         × IsChecked «module».now config.now options.now.limit checked
         × Appends (W.contents out.old) (W.contents out.new) (report checked)

@@ -3,7 +3,7 @@ use Rattle.std.proofs.Common.{◌≡◌, ◌<◌, ℕ, ◌+◌, true, false, Lis
 use Rattle.std.proofs.lemmas.Grind.{not_there}
 use Rattle.std.specs.Int.{w64}
 use Rattle.std.specs.Str.{IsUtf8}
-use Rattle.tla_lex.specs.Strings.{unescaped, string_text}
+use Rattle.tla_lex.specs.StringLoops.{unescaped, string_text}
 use Rattle.tla_lex.specs.declared.token.Kind.TheVariants as k
 use Rattle.tla_lex.specs.declared.token.Token.{Token}
 use Rattle.tla_tree.specs.Words.{word_of}

@@ -183,7 +183,8 @@ module _ (source : List ℕ) (ts : List Token) where
   pub onward_last : (i : Item) (from at end : ℕ) → Onward from at → SpellsItem source ts i at end → ClearItem source ts at → Ends source ts end → ClearItems source ts from
   onward_last i from at end on n clear e = clear_items from (λ r. reaches_last i at end n clear e (on r))
 
-  -- these items stand between two tokens: whatever items begin at the second, they and these stand from the first, and no others do
+  -- these items stand between two tokens: whatever items begin at the second, they and these stand from the first,
+  -- and no others do
   pub record ItemsSoFar (front : List Item) (from at : ℕ) : Type 0 where
     pub whole : (i : Item) (is : List Item) (to : ℕ) → Items source ts (i ∷ is) at to → Items source ts (front ++ i ∷ is) from to
     pub rest : (is : List Item) (to : ℕ) → Items source ts is from to → Ends source ts to → (js : List Item) × (is ≡ front ++ js) × Items source ts js at to

@@ -4,7 +4,7 @@ use Rattle.tla_lex.specs.declared.token.Kind.{Kind}
 use Rattle.tla_lex.specs.declared.token.Kind.TheVariants as k
 use Rattle.tla_lex.specs.declared.token.Token.{Token}
 use Rattle.tla_tree.specs.Words.{word_of}
-use Rattle.tla_lex.specs.Strings.{string_text}
+use Rattle.tla_lex.specs.StringLoops.{string_text}
 use Rattle.tla_value.specs.Tree.{Tree, truth, int, model}
 use Rattle.tla_value.specs.Tree.{text as text_of}
 use Rattle.tla_config.specs.declared.keyword.Keyword.{Keyword}

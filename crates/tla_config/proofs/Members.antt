@@ -25,7 +25,8 @@ pub set_too_deep : (vs : List Tree) → 64 ≤ deepest (trees vs) → IsValue (s
 set_too_deep vs h x = let f = x.1.shallow in let e = ap (λ us. deepest (trees us)) (members-trees vs) in absurd (omega arith)
 
 module _ (text : List ℕ) (ts : List Token) where
-  -- these members stand after the brace at one token and before another: whatever members follow, they and these are a set, and each set there begins with these
+  -- these members stand after the brace at one token and before another: whatever members follow, they and these are
+  -- a set, and each set there begins with these
   pub record MembersSoFar (front : List Tree) (from at : ℕ) : Type 0 where
     pub whole : (l : Literal) (ls : Literals) (mid to : ℕ) → SpellsLiteral text ts l at mid → SpellsMembers text ts ls mid to
         → (ms : Literals) × SpellsLiteral text ts (braces ms) from to × (values_of ms ≡ front ++ value_of l ∷ values_of ls)

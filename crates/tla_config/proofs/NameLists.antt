@@ -8,7 +8,8 @@ use Rattle.tla_config.specs.Private.Gives.{Ends, GoesOn, AreNames, NoNames}
 use Rattle.tla_config.proofs.Fronts.{one_name, comma_no_name}
 
 module _ (text : List ℕ) (ts : List Token) where
-  -- these names stand between two tokens: whatever names begin at the second, they and these stand from the first, and no others do
+  -- these names stand between two tokens: whatever names begin at the second, they and these stand from the first,
+  -- and no others do
   pub record NamesSoFar (front : List Written) (from at : ℕ) : Type 0 where
     pub whole : (w : Written) (ws : List Written) (to : ℕ) → Names text ts (w ∷ ws) at to → Names text ts (front ++ w ∷ ws) from to
     pub rest : (ws : List Written) (to : ℕ) → Names text ts ws from to → Ends text ts to → (vs : List Written) × (ws ≡ front ++ vs) × Names text ts vs at to

@@ -121,7 +121,8 @@ module _ (text : List ℕ) (ts : List Token) where
   stops_cause : (begin : ℕ) → HasCause begin → Stops begin
   stops_cause begin h = record { ends = cause_ends begin h.0 h.1; none = λ c to x f. clear_no_cause begin h.0 f h.1 }
 
-  -- these statements stand before a token: whatever statements begin there, they and these stand from the first token, and each list that stops begins with these
+  -- these statements stand before a token: whatever statements begin there, they and these stand from the first
+  -- token, and each list that stops begins with these
   pub record StatementsSoFar (front : List Statement) (at : ℕ) : Type 0 where
     pub whole : (cs : List Statement) (to : ℕ) → StatementsUpTo text ts cs at to → StatementsUpTo text ts (front ++ cs) 0 to
     pub rest : (cs : List Statement) (to : ℕ) → StatementsUpTo text ts cs 0 to → Stops to → (ds : List Statement) × (cs ≡ front ++ ds) × StatementsUpTo text ts ds at to

@@ -1,7 +1,7 @@
 -- Values as a configuration writes them, and what they are (book, chapters 14 and 16).
 use Rattle.std.specs.Prelude.{ℤ, pos, neg_ℤ, Bool, true, false, List, [], ◌∷◌, Option, Some, None, if◌then◌else◌}
 use Rattle.tla_lex.specs.Bytes.{Bytes}
-use Rattle.tla_lex.specs.Strings.{string_text}
+use Rattle.tla_lex.specs.StringLoops.{string_text}
 use Rattle.tla_lex.specs.Words as digits
 use Rattle.tla_lex.specs.declared.token.Kind.{Kind}
 use Rattle.tla_lex.specs.declared.token.Kind.TheVariants as k

@@ -3,7 +3,7 @@
 ghost use Rattle.std.specs.Prelude.{◌≡◌, ◌⊎◌, ◌≤◌, ◌<◌, ◌+◌, ◌^◌, ℕ, List, true, false, length, map, slice_get, FitsSigned, IfOk, IfErr, IfSome, IfNone, OnOk};
 ghost use Rattle.std.specs.Int.{w64};
 ghost use Rattle.tla_lex.specs.Words as decimal;
-ghost use Rattle.tla_lex.specs.Strings.{string_text};
+ghost use Rattle.tla_lex.specs.StringLoops.{string_text};
 ghost use Rattle.std.specs.Str.{IsUtf8};
 ghost use Rattle.tla_lex.specs.declared.token.Token as lexed;
 ghost use Rattle.tla_value.specs.IsValue.{IsValue};
@@ -76,6 +76,7 @@ fn negative(digits: &[u8]) -> Option<i64>
 }
 
 /// The bytes of a string, which has its quotes.
+#[tactic(auto, using(tla_lex::proofs::StringTexts::reads_text))]
 fn bytes_of(alloc: Global, literal: &[u8]) -> Result<Vec<u8>, Refusal>
     ensures ok { IfOk result (λ v. v.items ≡ string_text literal.now) }
     ensures err { IfErr result (λ e. e ≡ Refusal.NoMemory) }

@@ -5,6 +5,7 @@ use Rattle.tla_tree.specs.declared.word.Written.{Written}
 use Rattle.tla_tree.specs.Tree.{Tree}
 use Rattle.tla_tree.specs.Units.{UnitTree}
 use Rattle.tla_config.specs.Statements.{Statement, Specification, Init, Next, Invariants, Constraints, Constants, CheckDeadlock}
+use Rattle.tla_expand.specs.Meanings.{Scope}
 use Rattle.tla_defs.specs.Model.{IsBehaviour, initials_named, nexts_named, specifications_named}
 use Rattle.tla_defs.specs.Refused.{Behaviour, Named, Specified, alone, behaviour}
 use Rattle.tla_defs.specs.Laws.{NamesInitAndNext, NamesSpecification}
@@ -108,9 +109,9 @@ specified_found (Constraints at ws ∷ cs) end v i n s = specified_found cs end 
 specified_found (CheckDeadlock at check ∷ cs) end v i n s = specified_found cs end v i n s
 specified_found (Constants at is ∷ cs) end v i n s = specified_found cs end v i n s
 
-pub behaviour_found : (us : List UnitTree) (cs : List Statement) (end : Place) (i a : Tree) → IsBehaviour us cs i a → IsFound (behaviour cs end None None)
-behaviour_found us cs end i a (inl h) = named_found None None cs end h.init_name h.next_name h.one_init h.one_next h.no_specification
-behaviour_found us cs end i a (inr h) = specified_found cs end h.name h.no_init h.no_next h.one_specification
+pub behaviour_found : (us : List UnitTree) (cs : List Statement) (end : Place) (σ : Scope) (i a : Tree) → IsBehaviour us cs σ i a → IsFound (behaviour cs end None None)
+behaviour_found us cs end σ i a (inl h) = named_found None None cs end h.init_name h.next_name h.one_init h.one_next h.no_specification
+behaviour_found us cs end σ i a (inr h) = specified_found cs end h.name h.no_init h.no_next h.one_specification
 
 -- ---- found exactly where it is named
 abbrev found : Behaviour → Result Behaviour Place

@@ -15,41 +15,44 @@ use Rattle.tla_expand.specs.Meanings.{Scope}
 use Rattle.tla_model.specs.ModelOf.{predicate_of, tree_of_parts}
 use Rattle.tla_model.specs.declared.state_predicate.StatePredicate.{StatePredicate}
 use Rattle.tla_defs.specs.Private.Formulas.{Follow, mentions}
-use Rattle.tla_defs.specs.Global.{global}
+use Rattle.tla_defs.specs.Global.{IsScopeOf}
 use Rattle.tla_names.specs.Constants.{unvalued}
 use Rattle.tla_names.specs.Misuses.{misuse, variables_of}
 use Rattle.tla_items.specs.Items.{definitions_of, replaceable_of, nameable_of, replaced_names, items_misused}
 use Rattle.tla_items.specs.References.{references}
 use Rattle.tla_items.specs.Cycles.{AreStraight}
 use Rattle.tla_names.specs.Named.{names_misused}
+use Rattle.tla_names.proofs.WellScopedModule.{well_scoped_module, named_statements, assigned_constants}
 use Rattle.tla_formulas.specs.Formulas.{IsInitial, IsAction, IsStatePredicate}
 use Rattle.tla_defs.specs.Model.{IsModel, IsBehaviour, AreStatePredicates, AreAssumptions, assumptions_of, invariants_named, constraints_named}
 
 -- the model of parts in memory
 pub parts_model : (us : List UnitTree) (cs : List Statement) (σ : Scope) (vs : List Name) (assumed : List Core) (init next : Core) (is ks : List StatePredicate) (check : Bool) (i n : Tree)
-    → σ ≡ global us (items_of cs)
+    → IsScopeOf us (items_of cs) σ
     → misuse us ≡ None → items_misused (replaceable_of us) (nameable_of us) [] (items_of cs) ≡ None → unvalued (replaced_names (items_of cs)) us ≡ None → names_misused (definitions_of us) cs ≡ None
     → AreStraight (references us (items_of cs)) (items_of cs)
-    → IsBehaviour us cs i n → vs ≡ variables_of us → AreAssumptions σ (assumptions_of us) (map expr_of assumed)
+    → IsBehaviour us cs σ i n → vs ≡ variables_of us → AreAssumptions σ (assumptions_of us) (map expr_of assumed)
     → IsInitial σ i (expr_of init) → IsAction σ n (expr_of next)
     → AreStatePredicates σ (invariants_named cs) (map predicate_of is) → AreStatePredicates σ (constraints_named cs) (map predicate_of ks) → check ≡ checks_deadlock cs
     → IsModel us cs (tree_of_parts vs assumed init next is ks check)
 parts_model us cs σ vs assumed init next is ks check i n at known given valued named straight behaviour names assumptions initial action invariants constraints deadlock =
     record {
-      known = known;
+      known = (well_scoped_module us).1 known;
       given = given;
-      valued = valued;
-      named = named;
+      valued = (assigned_constants (replaced_names (items_of cs)) us).1 valued;
+      named = (named_statements (definitions_of us) cs).1 named;
       straight = straight;
+      scope = σ;
+      is_scope = at;
       initial = i;
       action = n;
       behaviour = behaviour;
       variables = names;
-      assumptions = rw (sym at) assumptions;
-      init = rw (sym at) initial;
-      next = rw (sym at) action;
-      invariants = rw (sym at) invariants;
-      constraints = rw (sym at) constraints;
+      assumptions = assumptions;
+      init = initial;
+      next = action;
+      invariants = invariants;
+      constraints = constraints;
       check_deadlock = deadlock;
     }
 

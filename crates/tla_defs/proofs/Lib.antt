@@ -19,3 +19,6 @@ pub mod Locating
 pub mod Alike
 pub mod Passes
 pub mod Visits
+pub mod Scoped
+pub mod Straight
+pub mod OneScope

@@ -25,7 +25,6 @@ use Rattle.tla_expand.specs.declared.primes.Primes.{Primes}
 use Rattle.tla_expand.specs.declared.primes.Primes.TheVariants as read
 use Rattle.tla_expand.specs.Expand.{expand}
 use Rattle.tla_expand.specs.Meanings.{Scope}
-use Rattle.tla_defs.specs.Global.{global}
 use Rattle.tla_formulas.specs.Formulas.{meaning_in}
 use Rattle.tla_defs.specs.Model.{assumptions_of, invariants_named, constraints_named}
 use Rattle.tla_formulas.specs.Refused.{IsCause, IsOfFormula}
@@ -109,19 +108,19 @@ of_predicates σ [] e r = absurd r
 of_predicates σ (w ∷ ws) e (inl r) = of_formula (meaning_in σ w) read.Once e r
 of_predicates σ (w ∷ ws) e (inr r) = of_predicates σ ws e r
 
-of_some : (us : List UnitTree) (cs : List Statement) (e : DefsError) → IsOfSome us cs e → IsLocated e.code e.place e.name
-of_some us cs e (of_assumption r) = of_assumptions (global us (items_of cs)) (assumptions_of us) e r
-of_some us cs e (of_initial i a b r) = of_formula (expand i (global us (items_of cs)) 0) read.Once e r
-of_some us cs e (of_action i a b r) = of_formula (expand a (global us (items_of cs)) 0) read.Never e r
-of_some us cs e (of_invariant r) = of_predicates (global us (items_of cs)) (invariants_named cs) e r
-of_some us cs e (of_constraint r) = of_predicates (global us (items_of cs)) (constraints_named cs) e r
+of_some : (us : List UnitTree) (cs : List Statement) (σ : Scope) (e : DefsError) → IsOfSome us cs σ e → IsLocated e.code e.place e.name
+of_some us cs σ e (of_assumption r) = of_assumptions σ (assumptions_of us) e r
+of_some us cs σ e (of_initial i a b r) = of_formula (expand i σ 0) read.Once e r
+of_some us cs σ e (of_action i a b r) = of_formula (expand a σ 0) read.Never e r
+of_some us cs σ e (of_invariant r) = of_predicates σ (invariants_named cs) e r
+of_some us cs σ e (of_constraint r) = of_predicates σ (constraints_named cs) e r
 
 of_last : (us : List UnitTree) (cs : List Statement) (b : Result Behaviour Place) (e : DefsError) → IsLast us cs b e → IsLocated e.code e.place e.name
-of_last us cs b e (inr r) = of_some us cs e r
-of_last us cs (Ok (Specified p w)) e (inl (inl (r, none))) = rw (sym r) refl
-of_last us cs (Ok (Specified p w)) e (inl (inr (r, many))) = too_large e.code e.place e.name r.code r.place r.name
-of_last us cs (Ok (Named i n)) e (inl r) = absurd r
-of_last us cs (Err p) e (inl r) = absurd r
+of_last us cs b e (σ, at, inr r) = of_some us cs σ e r
+of_last us cs (Ok (Specified p w)) e (σ, at, inl (inl (r, none))) = rw (sym r) refl
+of_last us cs (Ok (Specified p w)) e (σ, at, inl (inr (r, many))) = too_large e.code e.place e.name r.code r.place r.name
+of_last us cs (Ok (Named i n)) e (σ, at, inl r) = absurd r
+of_last us cs (Err p) e (σ, at, inl r) = absurd r
 
 of_refusal : (us : List UnitTree) (cs : List Statement) (o : Option DefsError) (b : Result Behaviour Place) → Located o → (e : DefsError) → refusal_is us cs o b e → IsLocated e.code e.place e.name
 of_refusal us cs (Some d) b h e r = h e (ap (λ x. Some x) r)

@@ -14,22 +14,23 @@ use Rattle.tla_model.specs.ModelTree.{ModelTree}
 use Rattle.tla_defs.specs.declared.init_and_next.InitAndNext.{InitAndNext}
 use Rattle.tla_defs.specs.declared.init_and_next.InitAndNext.TheVariants as meant
 use Rattle.tla_defs.specs.Bodies.{body_of}
-use Rattle.tla_defs.specs.Global.{global}
+use Rattle.tla_defs.specs.Global.{IsScopeOf}
 use Rattle.tla_names.specs.Misuses.{variables_of}
 use Rattle.tla_formulas.specs.Formulas.{IsInitial}
 use Rattle.tla_defs.specs.Model.{IsModel, IsBehaviour, specifications_named}
 use Rattle.tla_defs.specs.Refused.{Behaviour, Named, Specified}
 use Rattle.tla_defs.specs.Specification.{IsSpecification, conjunction_of, conjuncts, initials_of, replaced}
 use Rattle.tla_defs.specs.Private.Specified.{IsOnly, IsMeant, NoneMeant, HasMany, MayBeLast, form_refused, initial_tree, action_tree}
+use Rattle.tla_defs.proofs.OneScope.{model_scope}
 use Rattle.tla_defs.proofs.States.{too_long}
 use Rattle.tla_defs.proofs.Unique.{same_one, same_some}
 
 -- they are those of the configuration
-abbrev pub Means : List UnitTree → List Statement → InitAndNext → Type 0
-Means us cs m = (i : Tree) × (initial_tree m ≡ Some i) × IsBehaviour us cs i (action_tree m)
+abbrev pub Means : List UnitTree → List Statement → Scope → InitAndNext → Type 0
+Means us cs σ m = (i : Tree) × (initial_tree m ≡ Some i) × IsBehaviour us cs σ i (action_tree m)
 
-pub meant_behaviour : (us : List UnitTree) (cs : List Statement) (b : Behaviour) (m : InitAndNext) → IsOnly cs b → IsMeant us (items_of cs) (global us (items_of cs)) (length (variables_of us)) b m → Means us cs m
-meant_behaviour us cs (Named i a) (meant.Named j k) only h = (
+pub meant_behaviour : (us : List UnitTree) (cs : List Statement) (σ : Scope) (b : Behaviour) (m : InitAndNext) → IsOnly cs b → IsMeant us (items_of cs) σ (length (variables_of us)) b m → Means us cs σ m
+meant_behaviour us cs σ (Named i a) (meant.Named j k) only h = (
   t.Name j.now,
   refl,
   inl (record {
@@ -42,46 +43,49 @@ meant_behaviour us cs (Named i a) (meant.Named j k) only h = (
     action_is = ap (λ w. t.Name w) h.1;
   }),
 )
-meant_behaviour us cs (Specified p w) (meant.Specified s) only h = (
+meant_behaviour us cs σ (Specified p w) (meant.Specified s) only h = (
   h.0,
   h.1,
   inr (record { name = w; one_specification = only.specification; no_init = only.init; no_next = only.next; form = h.2 }),
 )
-meant_behaviour us cs (Named i a) (meant.Specified s) only h = absurd h
-meant_behaviour us cs (Specified p w) (meant.Named j k) only h = absurd h
+meant_behaviour us cs σ (Named i a) (meant.Specified s) only h = absurd h
+meant_behaviour us cs σ (Specified p w) (meant.Named j k) only h = absurd h
 
 same_refusal : (d e : DefsError) → Some d ≡ Some e → d ≡ e
 same_refusal d e p = cc
 
-none_of_behaviour : (us : List UnitTree) (cs : List Statement) (b : Behaviour) (i a : Tree) (e : DefsError) → IsOnly cs b → MayBeLast (form_refused b) (HasMany us (items_of cs) b) e
-    → (e.code ≡ c.SpecificationForm → NoneMeant us (items_of cs) (global us (items_of cs)) (length (variables_of us)) b) → IsBehaviour us cs i a → (x : Expr) → IsInitial (global us (items_of cs)) i x → ⊥
-none_of_behaviour us cs (Named j k) i a e only (inl q) none h x init = cc
-none_of_behaviour us cs (Named j k) i a e only (inr (l, many)) none h x init = many
-none_of_behaviour us cs (Specified p w) i a e only last none (inl h) x init =
+none_of_behaviour : (us : List UnitTree) (cs : List Statement) (σ : Scope) (b : Behaviour) (i a : Tree) (e : DefsError) → IsOnly cs b → MayBeLast (form_refused b) (HasMany us (items_of cs) b) e
+    → (e.code ≡ c.SpecificationForm → NoneMeant us (items_of cs) σ (length (variables_of us)) b) → IsBehaviour us cs σ i a → (x : Expr) → IsInitial σ i x → ⊥
+none_of_behaviour us cs σ (Named j k) i a e only (inl q) none h x init = cc
+none_of_behaviour us cs σ (Named j k) i a e only (inr (l, many)) none h x init = many
+none_of_behaviour us cs σ (Specified p w) i a e only last none (inl h) x init =
     let one = only.specification in
     let no = h.no_specification in
     let z : ⊥ = cc in
     z
-none_of_behaviour us cs (Specified p w) i a e only (inl q) none (inr h) x init =
+none_of_behaviour us cs σ (Specified p w) i a e only (inl q) none (inr h) x init =
     let same = same_one (specifications_named cs) w h.name only.specification h.one_specification in
     let told : e.code ≡ c.SpecificationForm = ap (λ (d : DefsError). d.code) (sym (same_refusal _ e q)) in
     let gone = none told i a (rw same h.form) in
     let meaning = ap (with_primes Once) init.meaning ∙ init.primed in
     let z : ⊥ = cc in
     z
-none_of_behaviour us cs (Specified p w) i a e only (inr (l, many)) none (inr h) x init =
+none_of_behaviour us cs σ (Specified p w) i a e only (inr (l, many)) none (inr h) x init =
     let same = same_one (specifications_named cs) w h.name only.specification h.one_specification in
-    let form : IsSpecification us (items_of cs) (global us (items_of cs)) (length (variables_of us)) w i a = rw same h.form in
+    let form : IsSpecification us (items_of cs) σ (length (variables_of us)) w i a = rw same h.form in
     let body = same_some (body_of us (items_of cs) w.word) form.body many.body form.is_body many.is_body in
-    too_long (global us (items_of cs)) (initials_of (length us) (body_of us (items_of cs)) (conjuncts (length us) (replaced us (items_of cs)) many.body)) i
+    too_long σ (initials_of (length us) (body_of us (items_of cs)) (conjuncts (length us) (replaced us (items_of cs)) many.body)) i
     (subst (λ t. conjunction_of (initials_of (length us) (body_of us (items_of cs)) (conjuncts (length us) (replaced us (items_of cs)) t)) ≡ Some i) body form.is_initial) many.many x init
 
 -- the scope, the items and the number of variables are those of the texts
-pub meaning_behaviour : (us : List UnitTree) (cs : List Statement) (is : List Item) (σ : Scope) (n : ℕ) (b : Behaviour) (m : InitAndNext) → is ≡ items_of cs → σ ≡ global us (items_of cs) → n ≡ length (variables_of us)
-    → IsOnly cs b → IsMeant us is σ n b m → Means us cs m
-meaning_behaviour us cs is σ n b m p q r only h = meant_behaviour us cs b m only (rw (p, q, r) at h)
+pub meaning_behaviour : (us : List UnitTree) (cs : List Statement) (is : List Item) (σ : Scope) (n : ℕ) (b : Behaviour) (m : InitAndNext) → is ≡ items_of cs → n ≡ length (variables_of us)
+    → IsOnly cs b → IsMeant us is σ n b m → Means us cs σ m
+meaning_behaviour us cs is σ n b m p r only h = meant_behaviour us cs σ b m only (rw (p, r) at h)
 
 -- without them there is no model
-pub no_meaning : (us : List UnitTree) (cs : List Statement) (is : List Item) (σ : Scope) (n : ℕ) (b : Behaviour) (e : DefsError) → is ≡ items_of cs → σ ≡ global us (items_of cs) → n ≡ length (variables_of us)
+pub no_meaning : (us : List UnitTree) (cs : List Statement) (is : List Item) (σ : Scope) (n : ℕ) (b : Behaviour) (e : DefsError) → is ≡ items_of cs → IsScopeOf us (items_of cs) σ → n ≡ length (variables_of us)
     → IsOnly cs b → MayBeLast (form_refused b) (HasMany us is b) e → (e.code ≡ c.SpecificationForm → NoneMeant us is σ n b) → (m : ModelTree) → IsModel us cs m → ⊥
-no_meaning us cs is σ n b e p q r only last none m h = none_of_behaviour us cs b h.initial h.action e only (rw p at last) (λ t. rw (p, q, r) at (none t)) h.behaviour m.init h.init
+no_meaning us cs is σ n b e p q r only last none m h =
+    let here = model_scope us cs m h σ q in
+    none_of_behaviour us cs σ b h.initial h.action e only (rw p at last) (λ t. rw (p, r) at (none t)) (subst (λ ρ. IsBehaviour us cs ρ h.initial h.action) here h.behaviour) m.init
+    (subst (λ ρ. IsInitial ρ h.initial m.init) here h.init)

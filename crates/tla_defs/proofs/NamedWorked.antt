@@ -1,22 +1,26 @@
 -- The models of modules with names in their expressions, by computation.
-use Rattle.std.proofs.Common.{refl, arith}
+use Rattle.std.proofs.Common.{refl, arith, []}
 use Rattle.std.specs.Prelude.{codes}
 use Rattle.tla_tree.specs.Tree.{Name}
-use Rattle.tla_defs.specs.NamedRows.{WithParameter, WithLet, WithoutCapture}
+use Rattle.tla_expand.specs.Meanings.{standard}
+use Rattle.tla_defs.specs.Global.{meant}
+use Rattle.tla_defs.specs.NamedRows.{behind, plus_one, use_tree, let_tree, some_unit, meeting_tree, WithParameter, WithLet, WithoutCapture}
 use Rattle.tla_defs.specs.Rows.{word, init_before}
-use Rattle.tla_defs.proofs.Worked.{within, by_names}
+use Rattle.tla_defs.proofs.Worked.{within, by_names, well_named}
 
 pub with_parameter : WithParameter
 with_parameter =
-    record {
-      known = refl;
+    well_named _ _ _ refl refl refl (λ known valued named. record {
+      known = known;
       given = refl;
-      valued = refl;
-      named = refl;
+      valued = valued;
+      named = named;
       straight = tt;
+      scope = meant (behind plus_one use_tree) [] standard;
+      is_scope = refl;
       initial = Name (word 1 6 (codes "Init"));
       action = Name (word 2 6 (codes "Next"));
-      behaviour = by_names _ _ _ _ refl refl refl;
+      behaviour = by_names _ _ _ _ _ refl refl refl;
       variables = refl;
       assumptions = tt;
       init = record { before = init_before 0; meaning = refl; primed = refl; limits = within _ 3 2 refl refl (omega arith) (omega arith) };
@@ -24,19 +28,21 @@ with_parameter =
       invariants = tt;
       constraints = tt;
       check_deadlock = refl;
-    }
+    })
 
 pub with_let : WithLet
 with_let =
-    record {
-      known = refl;
+    well_named _ _ _ refl refl refl (λ known valued named. record {
+      known = known;
       given = refl;
-      valued = refl;
-      named = refl;
+      valued = valued;
+      named = named;
       straight = tt;
+      scope = meant (behind plus_one let_tree) [] standard;
+      is_scope = refl;
       initial = Name (word 1 6 (codes "Init"));
       action = Name (word 2 6 (codes "Next"));
-      behaviour = by_names _ _ _ _ refl refl refl;
+      behaviour = by_names _ _ _ _ _ refl refl refl;
       variables = refl;
       assumptions = tt;
       init = record { before = init_before 0; meaning = refl; primed = refl; limits = within _ 3 2 refl refl (omega arith) (omega arith) };
@@ -44,19 +50,21 @@ with_let =
       invariants = tt;
       constraints = tt;
       check_deadlock = refl;
-    }
+    })
 
 pub without_capture : WithoutCapture
 without_capture =
-    record {
-      known = refl;
+    well_named _ _ _ refl refl refl (λ known valued named. record {
+      known = known;
       given = refl;
-      valued = refl;
-      named = refl;
+      valued = valued;
+      named = named;
       straight = tt;
+      scope = meant (behind some_unit meeting_tree) [] standard;
+      is_scope = refl;
       initial = Name (word 1 6 (codes "Init"));
       action = Name (word 2 6 (codes "Next"));
-      behaviour = by_names _ _ _ _ refl refl refl;
+      behaviour = by_names _ _ _ _ _ refl refl refl;
       variables = refl;
       assumptions = tt;
       init = record { before = init_before 0; meaning = refl; primed = refl; limits = within _ 3 2 refl refl (omega arith) (omega arith) };
@@ -64,4 +72,4 @@ without_capture =
       invariants = tt;
       constraints = tt;
       check_deadlock = refl;
-    }
+    })

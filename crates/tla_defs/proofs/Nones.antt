@@ -14,7 +14,7 @@ use Rattle.tla_config.specs.View.{ConfigTree}
 use Rattle.tla_expand.specs.Meanings.{Scope}
 use Rattle.tla_model.specs.ModelTree.{ModelTree}
 use Rattle.tla_defs.specs.Private.Formulas.{LacksPredicate, LacksAssumption}
-use Rattle.tla_defs.specs.Global.{global}
+use Rattle.tla_defs.specs.Global.{IsScopeOf}
 use Rattle.tla_names.specs.Constants.{unvalued}
 use Rattle.tla_names.specs.Misuses.{misuse, variables_of}
 use Rattle.tla_items.specs.Items.{definitions_of, replaceable_of, nameable_of, replaced_names, items_misused}
@@ -28,15 +28,18 @@ use Rattle.tla_defs.specs.Private.Specified.{form_refused, HasMany, MayBeLast, N
 use Rattle.tla_names.specs.Refusal.{refusal_at, refusal_for}
 use Rattle.tla_items.specs.Refusal.{items_refused, IsOfCycle}
 use Rattle.tla_defs.proofs.Behaviours.{behaviour_found}
+use Rattle.tla_names.proofs.WellScopedModule.{well_scoped_module, named_statements, assigned_constants}
+use Rattle.tla_defs.proofs.OneScope.{model_scope}
 use Rattle.tla_defs.proofs.Unique.{one_behaviour}
 
 -- no step refuses what names a model
 pub no_refusal : (us : List UnitTree) (config : ConfigTree) (m : ModelTree) → IsModel us config.statements m → refused us config ≡ None
 no_refusal us config m h =
-    let f = behaviour_found us config.statements config.end h.initial h.action h.behaviour in
-    rw (h.known, h.given, h.valued, f.1, h.named) refl
+    let f = behaviour_found us config.statements config.end h.scope h.initial h.action h.behaviour in
+    rw ((well_scoped_module us).0 h.known, h.given, (assigned_constants (replaced_names (items_of config.statements)) us).0 h.valued, f.1, (named_statements (definitions_of us) config.statements).0 h.named) refl
 
--- where the steps that look at names refuse nothing, and no item leads back to its name, a refusal is one of the last steps
+-- where the steps that look at names refuse nothing, and no item leads back to its name, a refusal is one of the last
+-- steps
 pub last_refusal : (us : List UnitTree) (config : ConfigTree) (is : List Item) (b : Behaviour) (e : DefsError) → misuse us ≡ None → is ≡ items_of config.statements
     → items_misused (replaceable_of us) (nameable_of us) [] is ≡ None → unvalued (replaced_names is) us ≡ None → behaviour config.statements config.end None None ≡ Ok b
     → names_misused (definitions_of us) config.statements ≡ None → AreStraight (references us is) is → IsLast us config.statements (Ok b) e → IsRefusal us config e
@@ -52,20 +55,18 @@ pub last_same : (us : List UnitTree) (cs ds : List Statement) (b : Result Behavi
 last_same us cs ds b e same last = subst (λ xs. IsLast us xs b e) same last
 
 -- the refusal of a meaning
-pub meaning_refused : (us : List UnitTree) (cs : List Statement) (is : List Item) (σ : Scope) (n : ℕ) (b : Behaviour) (e : DefsError) → is ≡ items_of cs → σ ≡ global us is → n ≡ length (variables_of us)
+pub meaning_refused : (us : List UnitTree) (cs : List Statement) (is : List Item) (σ : Scope) (n : ℕ) (b : Behaviour) (e : DefsError) → is ≡ items_of cs → IsScopeOf us (items_of cs) σ → n ≡ length (variables_of us)
     → MayBeLast (form_refused b) (HasMany us is b) e → (e.code ≡ c.SpecificationForm → NoneMeant us is σ n b) → IsLast us cs (Ok b) e
-meaning_refused us cs is σ n (Named i a) e given at counted (inl q) none = cc
+meaning_refused us cs is σ n (Named i a) e given at counted (inl q) none = let z : ⊥ = cc in absurd z
 meaning_refused us cs is σ n (Named i a) e given at counted (inr (l, many)) none = absurd many
-meaning_refused us cs is σ n (Specified p w) e given at counted (inr (l, many)) none = inl (inr (l, subst (λ js. HasTooMany us js w) given many))
-meaning_refused us cs is σ n (Specified p w) e given at counted (inl q) none = inl (inl (told, no_form))
+meaning_refused us cs is σ n (Specified p w) e given at counted (inr (l, many)) none = (σ, at, inl (inr (l, subst (λ js. HasTooMany us js w) given many)))
+meaning_refused us cs is σ n (Specified p w) e given at counted (inl q) none = (σ, at, inl (inl (told, no_form)))
   where
     told : refusal_at c.SpecificationForm source.Configuration p ≡ e
     told = cc
 
-    no_form : NoForm us (items_of cs) (global us (items_of cs)) (length (variables_of us)) w
-    no_form =
-        subst (λ js. NoForm us js (global us js) (length (variables_of us)) w) given
-        (subst (λ ρ. NoForm us is ρ (length (variables_of us)) w) at (subst (λ k. NoForm us is σ k w) counted (none (ap (λ (d : DefsError). d.code) (sym told)))))
+    no_form : NoForm us (items_of cs) σ (length (variables_of us)) w
+    no_form = subst (λ js. NoForm us js σ (length (variables_of us)) w) given (subst (λ k. NoForm us is σ k w) counted (none (ap (λ (d : DefsError). d.code) (sym told))))
 
 -- where the steps before them refuse nothing, the names of the configuration are what is refused
 pub name_refusal : (us : List UnitTree) (config : ConfigTree) (is : List Item) (b : Behaviour) (e : DefsError) → misuse us ≡ None → is ≡ items_of config.statements
@@ -90,20 +91,26 @@ cycle_refusal us config is b e known at given valued behaves named cycle =
 
 pub no_behaviour : (us : List UnitTree) (config : ConfigTree) (p : Place) → behaviour config.statements config.end None None ≡ Err p → (m : ModelTree) → IsModel us config.statements m → ⊥
 no_behaviour us config p q m h =
-    let f = behaviour_found us config.statements config.end h.initial h.action h.behaviour in
+    let f = behaviour_found us config.statements config.end h.scope h.initial h.action h.behaviour in
     let g = f.1 in
+    let z : ⊥ = cc in
+    z
+
+pub no_module : (us : List UnitTree) (cs : List Statement) (e : DefsError) → refusal_for source.Module (misuse us) ≡ Some e → (m : ModelTree) → IsModel us cs m → ⊥
+no_module us cs e p m h =
+    let q = rw ((well_scoped_module us).0 h.known) at p in
     let z : ⊥ = cc in
     z
 
 pub no_items : (us : List UnitTree) (cs : List Statement) (e : DefsError) → items_refused us (items_of cs) ≡ Some e → (m : ModelTree) → IsModel us cs m → ⊥
 no_items us cs e p m h =
-    let q = rw (h.given, h.valued) at p in
+    let q = rw (h.given, (assigned_constants (replaced_names (items_of cs)) us).0 h.valued) at p in
     let z : ⊥ = cc in
     z
 
 pub no_names : (us : List UnitTree) (cs : List Statement) (e : DefsError) → refusal_for source.Configuration (names_misused (definitions_of us) cs) ≡ Some e → (m : ModelTree) → IsModel us cs m → ⊥
 no_names us cs e p m h =
-    let q = rw h.named at p in
+    let q = rw ((named_statements (definitions_of us) cs).0 h.named) at p in
     let z : ⊥ = cc in
     z
 
@@ -130,21 +137,23 @@ lacks_assumption σ (t ∷ ts) (e ∷ es) (inl l) h = l e h.0
 lacks_assumption σ (t ∷ ts) (e ∷ es) (inr l) h = lacks_assumption σ ts es l h.1
 
 -- without the formulas that the behaviour names there is no model
-pub no_init : (us : List UnitTree) (cs : List Statement) (σ : Scope) (i a : Tree) → σ ≡ global us (items_of cs) → IsBehaviour us cs i a → ((e : Expr) → IsInitial σ i e → ⊥) → (m : ModelTree) → IsModel us cs m → ⊥
+pub no_init : (us : List UnitTree) (cs : List Statement) (σ : Scope) (i a : Tree) → IsScopeOf us (items_of cs) σ → IsBehaviour us cs σ i a → ((e : Expr) → IsInitial σ i e → ⊥) → (m : ModelTree) → IsModel us cs m → ⊥
 no_init us cs σ i a at p none m h =
-    let same = one_behaviour us cs h.initial h.action i a h.behaviour p in
-    none m.init (rw at (subst (λ v. IsInitial (global us (items_of cs)) v m.init) same.0 h.init))
+    let here = model_scope us cs m h σ at in
+    let same = one_behaviour us cs σ h.initial h.action i a (subst (λ ρ. IsBehaviour us cs ρ h.initial h.action) here h.behaviour) p in
+    none m.init (subst (λ v. IsInitial σ v m.init) same.0 (subst (λ ρ. IsInitial ρ h.initial m.init) here h.init))
 
-pub no_next : (us : List UnitTree) (cs : List Statement) (σ : Scope) (i a : Tree) → σ ≡ global us (items_of cs) → IsBehaviour us cs i a → ((e : Expr) → IsAction σ a e → ⊥) → (m : ModelTree) → IsModel us cs m → ⊥
+pub no_next : (us : List UnitTree) (cs : List Statement) (σ : Scope) (i a : Tree) → IsScopeOf us (items_of cs) σ → IsBehaviour us cs σ i a → ((e : Expr) → IsAction σ a e → ⊥) → (m : ModelTree) → IsModel us cs m → ⊥
 no_next us cs σ i a at p none m h =
-    let same = one_behaviour us cs h.initial h.action i a h.behaviour p in
-    none m.next (rw at (subst (λ v. IsAction (global us (items_of cs)) v m.next) same.1 h.next))
+    let here = model_scope us cs m h σ at in
+    let same = one_behaviour us cs σ h.initial h.action i a (subst (λ ρ. IsBehaviour us cs ρ h.initial h.action) here h.behaviour) p in
+    none m.next (subst (λ v. IsAction σ v m.next) same.1 (subst (λ ρ. IsAction ρ h.action m.next) here h.next))
 
-pub no_invariants : (us : List UnitTree) (cs : List Statement) (σ : Scope) → σ ≡ global us (items_of cs) → LacksPredicate σ (invariants_named cs) → (m : ModelTree) → IsModel us cs m → ⊥
-no_invariants us cs σ at l m h = lacks_predicate σ (invariants_named cs) m.invariants l (rw at h.invariants)
+pub no_invariants : (us : List UnitTree) (cs : List Statement) (σ : Scope) → IsScopeOf us (items_of cs) σ → LacksPredicate σ (invariants_named cs) → (m : ModelTree) → IsModel us cs m → ⊥
+no_invariants us cs σ at l m h = lacks_predicate σ (invariants_named cs) m.invariants l (subst (λ ρ. AreStatePredicates ρ (invariants_named cs) m.invariants) (model_scope us cs m h σ at) h.invariants)
 
-pub no_constraints : (us : List UnitTree) (cs : List Statement) (σ : Scope) → σ ≡ global us (items_of cs) → LacksPredicate σ (constraints_named cs) → (m : ModelTree) → IsModel us cs m → ⊥
-no_constraints us cs σ at l m h = lacks_predicate σ (constraints_named cs) m.constraints l (rw at h.constraints)
+pub no_constraints : (us : List UnitTree) (cs : List Statement) (σ : Scope) → IsScopeOf us (items_of cs) σ → LacksPredicate σ (constraints_named cs) → (m : ModelTree) → IsModel us cs m → ⊥
+no_constraints us cs σ at l m h = lacks_predicate σ (constraints_named cs) m.constraints l (subst (λ ρ. AreStatePredicates ρ (constraints_named cs) m.constraints) (model_scope us cs m h σ at) h.constraints)
 
-pub no_assumptions : (us : List UnitTree) (cs : List Statement) (σ : Scope) → σ ≡ global us (items_of cs) → LacksAssumption σ (assumptions_of us) → (m : ModelTree) → IsModel us cs m → ⊥
-no_assumptions us cs σ at l m h = lacks_assumption σ (assumptions_of us) m.assumptions l (rw at h.assumptions)
+pub no_assumptions : (us : List UnitTree) (cs : List Statement) (σ : Scope) → IsScopeOf us (items_of cs) σ → LacksAssumption σ (assumptions_of us) → (m : ModelTree) → IsModel us cs m → ⊥
+no_assumptions us cs σ at l m h = lacks_assumption σ (assumptions_of us) m.assumptions l (subst (λ ρ. AreAssumptions ρ (assumptions_of us) m.assumptions) (model_scope us cs m h σ at) h.assumptions)

@@ -11,12 +11,13 @@ use Rattle.tla_config.specs.Names.{Name, is_among}
 use Rattle.tla_config.specs.Statements.{Item, Value, Replaces}
 use Rattle.tla_names.specs.Scope.{signature}
 use Rattle.tla_items.specs.Items.{replaced_names}
-use Rattle.tla_items.specs.References.{names_in, names_definition, names_sets}
-use Rattle.tla_items.specs.Open.{meets, with_touched, touched, with_operators, with_operators_of, still_open, at_word}
+use Rattle.tla_items.specs.References.{at_word, names_in, names_definition, names_sets}
+use Rattle.tla_items.specs.Open.{meets, with_touched, touched, with_operators, with_operators_of, still_open}
 use Rattle.tla_expand.specs.Meanings.{Argument, Scope, Meaning, standard, with_name, variable, parameter, operator}
 use Rattle.tla_expand.specs.Expand.{expand, definition_in}
 use Rattle.tla_defs.specs.Given.{fixed, with_items}
-use Rattle.tla_defs.specs.Global.{with_variable, with_operator, variables_in, unless, units_in, meant, raised}
+use Rattle.tla_defs.specs.Global.{with_variable, with_operator, variables_in, unless, units_in, meant}
+use Rattle.tla_defs.specs.Private.Passes.{raised}
 use Rattle.tla_defs.proofs.Alike.{Alike, expand_alike, operator_alike, function_alike}
 
 -- scopes that say the same of all names but these
@@ -44,13 +45,13 @@ same_bytes x = (bytes_eq-Decides x x).1 refl
 not_itself : (x : Name) (b : Bool) → (bytes_eq x x || b) ≡ false → ⊥
 not_itself x b h = let e = no_first (bytes_eq x x) b h in let f = same_bytes x in cc
 
-not_in_more : (y x : Name) (ys : List Name) → is_among y (ys ++ x ∷ []) ≡ false → is_among y ys ≡ false
+pub not_in_more : (y x : Name) (ys : List Name) → is_among y (ys ++ x ∷ []) ≡ false → is_among y ys ≡ false
 not_in_more y x [] h = refl
 not_in_more y x (z ∷ zs) h =
     let e = no_first (bytes_eq y z) (is_among y (zs ++ x ∷ [])) h in
     rw e (not_in_more y x zs (no_second (bytes_eq y z) (is_among y (zs ++ x ∷ [])) h))
 
-not_the_last : (y x : Name) (ys : List Name) → is_among y (ys ++ x ∷ []) ≡ false → bytes_eq y x ≡ false
+pub not_the_last : (y x : Name) (ys : List Name) → is_among y (ys ++ x ∷ []) ≡ false → bytes_eq y x ≡ false
 not_the_last y x [] h = no_first (bytes_eq y x) false h
 not_the_last y x (z ∷ zs) h = not_the_last y x zs (no_second (bytes_eq y z) (is_among y (zs ++ x ∷ [])) h)
 

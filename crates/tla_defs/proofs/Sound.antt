@@ -1,5 +1,5 @@
 -- The parts of a model can be evaluated: what they name exists.
-use Rattle.std.proofs.Common.{◌≡◌, ◌≤◌, ℕ, ◌+◌, true, false, Bool, refl, sym, ◌∙◌, arith, length, List, [], ◌∷◌, Some, None, length-append}
+use Rattle.std.proofs.Common.{◌≡◌, ◌≤◌, ℕ, ◌+◌, true, false, Bool, refl, sym, subst, ◌∙◌, arith, length, List, [], ◌∷◌, Some, None, length-append}
 use Rattle.std.proofs.lemmas.List.{length-map}
 use Rattle.std.proofs.lemmas.Bool.{lt-ltb}
 use Rattle.tla_value.specs.Tree as value
@@ -19,13 +19,15 @@ use Rattle.tla_expand.proofs.Fitting.{expand_fits, definition_fits, name_fits, v
 use Rattle.tla_model.specs.IsSound.{IsSound, IsUsable, AreUsable, bodies}
 use Rattle.tla_model.specs.ModelTree.{ModelTree}
 use Rattle.tla_model.specs.Size.{IsWithinLimits}
-use Rattle.tla_defs.specs.Global.{global, meant, raised, units_in, unless, variables_in, with_variable, with_operator}
+use Rattle.tla_defs.specs.Global.{meant, units_in, unless, variables_in, with_variable, with_operator}
+use Rattle.tla_defs.specs.Private.Passes.{global, raised}
 use Rattle.tla_items.specs.Items.{replaced_names}
 use Rattle.tla_defs.specs.Given.{fixed, with_items}
 use Rattle.tla_names.specs.Scope.{signature}
 use Rattle.tla_names.specs.Misuses.{variables_of}
 use Rattle.tla_formulas.specs.Formulas.{meaning_in}
 use Rattle.tla_defs.specs.Model.{AreStatePredicates, AreAssumptions, IsModel, assumptions_of, invariants_named, constraints_named}
+use Rattle.tla_defs.proofs.OneScope.{has_scope, in_order, model_scope}
 
 variables_fit : (ws : List Written) (i n : ℕ) (σ : Scope) → i + length ws ≤ n → FitsScope n 0 σ → FitsScope n 0 (variables_in i ws σ)
 variables_fit [] i n σ h s = s
@@ -107,8 +109,8 @@ pub sound : (us : List UnitTree) (cs : List Statement) (m : ModelTree) → IsMod
 sound us cs m h =
     let n = h.variables in
     let v = length (variables_of us) in
-    let σ = global us (items_of cs) in
-    let scope = global_fits us (items_of cs) in
+    let σ = h.scope in
+    let scope : FitsScope v 0 σ = subst (λ ρ. FitsScope v 0 ρ) (sym (model_scope us cs m h (global us (items_of cs)) (has_scope us (items_of cs) (in_order us cs m h)))) (global_fits us (items_of cs)) in
     let init : fits m.init 0 v false ≡ true = primes_fit Once v v false refl h.init.before 0 m.init h.init.primed ∙ expand_fits h.initial σ v 0 scope h.init.before h.init.meaning in
     record {
       assumptions = assumptions_usable v σ scope (assumptions_of us) m.assumptions h.assumptions;

@@ -1,21 +1,26 @@
 -- The models of modules with a specification, by computation.
-use Rattle.std.proofs.Common.{refl, arith, inr}
+use Rattle.std.proofs.Common.{refl, arith, inr, [], ◌∷◌}
 use Rattle.std.specs.Prelude.{codes}
 use Rattle.tla_tree.specs.declared.tree.Bullet.TheVariants as bullet
 use Rattle.tla_tree.specs.Tree.{Junction, more, none}
+use Rattle.tla_tree.specs.Units.{Operator}
+use Rattle.tla_expand.specs.Meanings.{standard}
+use Rattle.tla_defs.specs.Global.{meant}
 use Rattle.tla_defs.specs.NamedRows.{name_at}
-use Rattle.tla_defs.specs.Rows.{place, word, x_at, now_at, init_before}
-use Rattle.tla_defs.specs.SpecificationRows.{Specified, SpecifiedInParts, SpecifiedByNames, safe_tree, whole_tree, below_tree, named_tree}
-use Rattle.tla_defs.proofs.Worked.{within}
+use Rattle.tla_defs.specs.Rows.{place, word, x_at, now_at, init_before, frame, counter_tree}
+use Rattle.tla_defs.specs.SpecificationRows.{Specified, SpecifiedInParts, SpecifiedByNames, safe_tree, box_tree, whole_tree, below_tree, named_tree}
+use Rattle.tla_defs.proofs.Worked.{within, well_named}
 
 pub specified : Specified
 specified =
-    record {
-      known = refl;
+    well_named _ _ _ refl refl refl (λ known valued named. record {
+      known = known;
       given = refl;
-      valued = refl;
-      named = refl;
+      valued = valued;
+      named = named;
       straight = tt;
+      scope = meant (frame 0 (counter_tree 3) (Operator (word 6 1 (codes "Spec")) safe_tree ∷ [])) [] standard;
+      is_scope = refl;
       initial = name_at 6 9 (codes "Init");
       action = name_at 6 20 (codes "Next");
       behaviour = inr (record {
@@ -39,16 +44,18 @@ specified =
       invariants = tt;
       constraints = tt;
       check_deadlock = refl;
-    }
+    })
 
 pub specified_in_parts : SpecifiedInParts
 specified_in_parts =
-    record {
-      known = refl;
+    well_named _ _ _ refl refl refl (λ known valued named. record {
+      known = known;
       given = refl;
-      valued = refl;
-      named = refl;
+      valued = valued;
+      named = named;
       straight = tt;
+      scope = meant (frame 0 (counter_tree 3) (Operator (word 6 1 (codes "Safe")) safe_tree ∷ Operator (word 7 1 (codes "Spec")) whole_tree ∷ [])) [] standard;
+      is_scope = refl;
       initial = Junction (place 6 9) bullet.And (more (name_at 6 9 (codes "Init")) (more below_tree none));
       action = name_at 6 20 (codes "Next");
       behaviour = inr (record {
@@ -72,16 +79,18 @@ specified_in_parts =
       invariants = tt;
       constraints = tt;
       check_deadlock = refl;
-    }
+    })
 
 pub specified_by_names : SpecifiedByNames
 specified_by_names =
-    record {
-      known = refl;
+    well_named _ _ _ refl refl refl (λ known valued named. record {
+      known = known;
       given = refl;
-      valued = refl;
-      named = refl;
+      valued = valued;
+      named = named;
       straight = tt;
+      scope = meant (frame 0 (counter_tree 3) (Operator (word 6 1 (codes "Box")) box_tree ∷ Operator (word 7 1 (codes "Spec")) named_tree ∷ [])) [] standard;
+      is_scope = refl;
       initial = name_at 7 9 (codes "Init");
       action = name_at 6 11 (codes "Next");
       behaviour = inr (record {
@@ -105,4 +114,4 @@ specified_by_names =
       invariants = tt;
       constraints = tt;
       check_deadlock = refl;
-    }
+    })

@@ -1,4 +1,5 @@
--- The conjuncts of an initial predicate: where one is not of state level, the whole isn't, and where they are too many, it is not within the limits.
+-- The conjuncts of an initial predicate: where one is not of state level, the whole isn't, and where they are too
+-- many, it is not within the limits.
 use Rattle.std.proofs.Common.{◌≡◌, ◌≤◌, refl, ap, sym, ◌∙◌, subst, inl, inr, arith, length, get_or, List, [], ◌∷◌, Option, Some, None}
 use Rattle.std.specs.Borrow.{Bor}
 use Rattle.tla_core.specs.Expr.{Expr, Exprs, conjunction, more_exprs}

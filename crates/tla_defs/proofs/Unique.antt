@@ -1,5 +1,5 @@
 -- A module and a configuration name at most one model.
-use Rattle.std.proofs.Common.{◌≡◌, ℕ, List, [], ◌∷◌, Option, Some, refl, ap, sym, ◌∙◌, inl, inr, length}
+use Rattle.std.proofs.Common.{◌≡◌, ℕ, List, [], ◌∷◌, Option, Some, refl, ap, sym, subst, ◌∙◌, inl, inr, length}
 use Rattle.tla_core.specs.Expr.{Expr}
 use Rattle.tla_tree.specs.declared.word.Written.{Written}
 use Rattle.tla_tree.specs.Tree.{Tree}
@@ -12,12 +12,12 @@ use Rattle.tla_expand.specs.Meanings.{Scope}
 use Rattle.tla_expand.specs.Expand.{expand}
 use Rattle.tla_expand.specs.Primes.{primes}
 use Rattle.tla_model.specs.ModelTree.{ModelTree}
-use Rattle.tla_defs.specs.Global.{global}
 use Rattle.tla_names.specs.Misuses.{variables_of}
 use Rattle.tla_formulas.specs.Formulas.{meaning_in, IsInitial}
 use Rattle.tla_defs.specs.Model.{IsBehaviour, AreStatePredicates, AreAssumptions, IsModel, assumptions_of, initials_named, nexts_named, specifications_named, invariants_named, constraints_named}
 use Rattle.tla_defs.specs.Bodies.{body_of}
 use Rattle.tla_defs.specs.Specification.{IsSpecification, replaced, conjuncts, conjunction_of, initials_of, steps_of}
+use Rattle.tla_defs.proofs.OneScope.{model_scope}
 
 pub same_some : {A : Type 0} (o : Option A) (a b : A) → o ≡ Some a → o ≡ Some b → a ≡ b
 same_some o a b p q = cc
@@ -82,23 +82,24 @@ one_form us is σ n w v i a j b same g h =
       one_step (steps_of (conjuncts (length us) (replaced us is) g.body)) a b g.subscript h.subscript g.one_step (ap (λ es. steps_of es) split ∙ h.one_step),
     )
 
-pub one_behaviour : (us : List UnitTree) (cs : List Statement) (i a j b : Tree) → IsBehaviour us cs i a → IsBehaviour us cs j b → Same i a j b
-one_behaviour us cs i a j b (inl g) (inl h) = (
+pub one_behaviour : (us : List UnitTree) (cs : List Statement) (σ : Scope) (i a j b : Tree) → IsBehaviour us cs σ i a → IsBehaviour us cs σ j b → Same i a j b
+one_behaviour us cs σ i a j b (inl g) (inl h) = (
   g.initial_is ∙ ap (λ w. t.Name w) (same_one (initials_named cs) g.init_name h.init_name g.one_init h.one_init) ∙ sym h.initial_is,
   g.action_is ∙ ap (λ w. t.Name w) (same_one (nexts_named cs) g.next_name h.next_name g.one_next h.one_next) ∙ sym h.action_is,
 )
-one_behaviour us cs i a j b (inl g) (inr h) = absurd (no_two (specifications_named cs) h.name h.one_specification g.no_specification)
-one_behaviour us cs i a j b (inr g) (inl h) = absurd (no_two (specifications_named cs) g.name g.one_specification h.no_specification)
-one_behaviour us cs i a j b (inr g) (inr h) =
-    one_form us (items_of cs) (global us (items_of cs)) (length (variables_of us)) g.name h.name i a j b (same_one (specifications_named cs) g.name h.name g.one_specification h.one_specification) g.form h.form
+one_behaviour us cs σ i a j b (inl g) (inr h) = absurd (no_two (specifications_named cs) h.name h.one_specification g.no_specification)
+one_behaviour us cs σ i a j b (inr g) (inl h) = absurd (no_two (specifications_named cs) g.name g.one_specification h.no_specification)
+one_behaviour us cs σ i a j b (inr g) (inr h) =
+    one_form us (items_of cs) σ (length (variables_of us)) g.name h.name i a j b (same_one (specifications_named cs) g.name h.name g.one_specification h.one_specification) g.form h.form
 
 pub one_model : (us : List UnitTree) (cs : List Statement) (m n : ModelTree) → IsModel us cs m → IsModel us cs n → m ≡ n
 one_model us cs m n a b =
-    let σ = global us (items_of cs) in
-    let same = one_behaviour us cs a.initial a.action b.initial b.action a.behaviour b.behaviour in
-    same_model m n (a.variables ∙ sym b.variables) (one_assumption σ (assumptions_of us) m.assumptions n.assumptions a.assumptions b.assumptions)
-    (one_initial σ a.initial b.initial m.init n.init same.0 a.init b.init)
-    (one_expansion σ a.action b.action m.next n.next same.1 a.next.meaning b.next.meaning)
-    (one_list σ (invariants_named cs) m.invariants n.invariants a.invariants b.invariants)
-    (one_list σ (constraints_named cs) m.constraints n.constraints a.constraints b.constraints)
+    let σ = a.scope in
+    let here = model_scope us cs n b σ a.is_scope in
+    let same = one_behaviour us cs σ a.initial a.action b.initial b.action a.behaviour (subst (λ ρ. IsBehaviour us cs ρ b.initial b.action) here b.behaviour) in
+    same_model m n (a.variables ∙ sym b.variables) (one_assumption σ (assumptions_of us) m.assumptions n.assumptions a.assumptions (subst (λ ρ. AreAssumptions ρ (assumptions_of us) n.assumptions) here b.assumptions))
+    (one_initial σ a.initial b.initial m.init n.init same.0 a.init (subst (λ ρ. IsInitial ρ b.initial n.init) here b.init))
+    (one_expansion σ a.action b.action m.next n.next same.1 a.next.meaning (subst (λ ρ. expand b.action ρ 0 ≡ Some n.next) here b.next.meaning))
+    (one_list σ (invariants_named cs) m.invariants n.invariants a.invariants (subst (λ ρ. AreStatePredicates ρ (invariants_named cs) n.invariants) here b.invariants))
+    (one_list σ (constraints_named cs) m.constraints n.constraints a.constraints (subst (λ ρ. AreStatePredicates ρ (constraints_named cs) n.constraints) here b.constraints))
     (a.check_deadlock ∙ sym b.check_deadlock)

@@ -1,4 +1,5 @@
--- Modules with a constant that the configuration gives a value, with variables in two places, and with UNCHANGED, and the models that they name.
+-- Modules with a constant that the configuration gives a value, with variables in two places, and with UNCHANGED, and
+-- the models that they name.
 use Rattle.std.specs.Prelude.{pos, true, List, [], ◌∷◌, ◌++◌, codes}
 use Rattle.tla_value.specs.Tree as value
 use Rattle.tla_core.specs.Expr.{Expr, next, now, equal, conjunction, no_exprs, more_exprs}

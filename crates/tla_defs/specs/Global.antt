@@ -1,10 +1,11 @@
--- What the names of a module mean (book, chapters 14 and 17): those with an item by it, its variables by their numbers, and its definitions, each known to the units after it.
-use Rattle.std.specs.Prelude.{ℕ, ◌+◌, Bool, true, false, List, [], ◌∷◌, Some, length}
+-- What the names of a module mean (book, chapters 14 and 17): those with an item by it, its variables by their
+-- numbers, and its definitions, each known to the units after it.
+use Rattle.std.specs.Prelude.{◌≡◌, ℕ, ◌+◌, Bool, true, false, List, [], ◌∷◌, Some, length}
 use Rattle.tla_tree.specs.declared.word.Written.{Written}
 use Rattle.tla_tree.specs.Tree.{Tree}
 use Rattle.tla_tree.specs.Units.{UnitTree, Variables, Operator, Defines, Local, Assume}
 use Rattle.tla_config.specs.Names.{Name, is_among}
-use Rattle.tla_config.specs.Statements.{Item, Value, Replaces}
+use Rattle.tla_config.specs.Statements.{Item}
 use Rattle.tla_expand.specs.Meanings.{Scope, standard, with_name, variable, operator}
 use Rattle.tla_expand.specs.Expand.{expand, definition_in}
 use Rattle.tla_names.specs.Scope.{signature}
@@ -42,12 +43,7 @@ units_in xs i (u ∷ us) σ = units_in xs i us σ
 abbrev pub meant : List UnitTree → List Item → Scope → Scope
 meant us is ρ = units_in (replaced_names is) 0 us (with_items ρ is standard)
 
--- An operator that replaces a name may be defined after its uses, so for each such item there is one more pass in which
--- all names get their meaning.
-abbrev pub raised : List UnitTree → List Item → List Item → Scope → Scope
-raised us is [] ρ = ρ
-raised us is (Value w v ∷ js) ρ = raised us is js ρ
-raised us is (Replaces w op ∷ js) ρ = raised us is js (meant us is ρ)
-
-abbrev pub global : List UnitTree → List Item → Scope
-global us is = raised us is is (meant us is standard)
+-- The scope of a module with items. In it each variable means its number, each definition its body by the units before
+-- it, a name with `c = v` the value v, and one with `c <- Op` what Op means in this very scope, wherever it is defined.
+abbrev pub IsScopeOf : List UnitTree → List Item → Scope → Type 0
+IsScopeOf us is σ = σ ≡ meant us is σ

@@ -3,12 +3,33 @@ use Rattle.std.specs.Prelude.{◌≡◌, ◌↔◌, List, [], ◌∷◌, None, O
 use Rattle.tla_lex.specs.declared.token.Place.{Place}
 use Rattle.tla_tree.specs.declared.word.Written.{Written}
 use Rattle.tla_tree.specs.Units.{UnitTree}
-use Rattle.tla_config.specs.Statements.{Statement}
+use Rattle.tla_config.specs.Statements.{Statement, Item}
 use Rattle.tla_config.specs.View.{ConfigTree}
+use Rattle.tla_expand.specs.Meanings.{Scope}
+use Rattle.tla_names.specs.WellScopedModule.{IsWellScopedModule}
+use Rattle.tla_items.specs.Items.{replaceable_of, nameable_of, items_misused}
+use Rattle.tla_items.specs.References.{references}
+use Rattle.tla_items.specs.Cycles.{AreStraight}
 use Rattle.tla_model.specs.IsSound.{IsSound}
 use Rattle.tla_model.specs.ModelTree.{ModelTree}
+use Rattle.tla_defs.specs.Global.{IsScopeOf}
 use Rattle.tla_defs.specs.Model.{IsModel, initials_named, nexts_named, specifications_named}
 use Rattle.tla_defs.specs.Refused.{refused, behaviour, Named, Specified}
+
+-- A module and its items are in order: the module is well scoped, each item is for a name that may have one and has no
+-- other, and no item leads back to its name.
+pub record AreInOrder (us : List UnitTree) (is : List Item) : Type 0 where
+  pub known : IsWellScopedModule us
+  pub given : items_misused (replaceable_of us) (nameable_of us) [] is ≡ None
+  pub straight : AreStraight (references us is) is
+
+-- they have a scope
+abbrev pub HasScope : Type 0
+HasScope = (us : List UnitTree) (is : List Item) → AreInOrder us is → (σ : Scope) × IsScopeOf us is σ
+
+-- and only one
+abbrev pub OnlyScope : Type 0
+OnlyScope = (us : List UnitTree) (is : List Item) (σ τ : Scope) → AreInOrder us is → IsScopeOf us is σ → IsScopeOf us is τ → σ ≡ τ
 
 -- a module and a configuration name at most one model
 abbrev pub OnlyModel : Type 0
@@ -18,7 +39,7 @@ OnlyModel = (us : List UnitTree) (cs : List Statement) (m n : ModelTree) → IsM
 abbrev pub NoneRefused : Type 0
 NoneRefused = (us : List UnitTree) (config : ConfigTree) (m : ModelTree) → IsModel us config.statements m → refused us config ≡ None
 
--- what is named by a model exists, and it is no deeper than the limit
+-- what a model's expressions name exists, and they are no deeper than the limit
 abbrev pub IsAlwaysSound : Type 0
 IsAlwaysSound = (us : List UnitTree) (cs : List Statement) (m : ModelTree) → IsModel us cs m → IsSound m
 

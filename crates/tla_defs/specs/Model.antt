@@ -11,13 +11,14 @@ use Rattle.tla_config.specs.Statements.{Statement, Specification, Init, Next, In
 use Rattle.tla_expand.specs.Meanings.{Scope}
 use Rattle.tla_model.specs.ModelTree.{ModelTree}
 use Rattle.tla_formulas.specs.Formulas.{IsInitial, IsAction, IsStatePredicate, IsAssumption}
-use Rattle.tla_defs.specs.Global.{global}
-use Rattle.tla_names.specs.Constants.{unvalued}
+use Rattle.tla_defs.specs.Global.{IsScopeOf}
+use Rattle.tla_names.specs.Constants.{AreAssigned}
+use Rattle.tla_names.specs.WellScopedModule.{IsWellScopedModule}
 use Rattle.tla_items.specs.Items.{definitions_of, replaceable_of, nameable_of, replaced_names, items_misused}
 use Rattle.tla_items.specs.References.{references}
 use Rattle.tla_items.specs.Cycles.{AreStraight}
-use Rattle.tla_names.specs.Named.{names_misused}
-use Rattle.tla_names.specs.Misuses.{variables_of, misuse}
+use Rattle.tla_names.specs.Named.{AreNamed}
+use Rattle.tla_names.specs.Misuses.{variables_of}
 use Rattle.tla_defs.specs.Specification.{IsSpecification}
 
 -- each name with its state predicate, in the same order
@@ -88,31 +89,33 @@ pub record IsNamed (cs : List Statement) (initial action : Tree) : Type 0 where
   pub action_is : action ≡ t.Name next_name
 
 -- SPECIFICATION alone names a formula that they are parts of
-pub record IsSpecified (us : List UnitTree) (cs : List Statement) (initial action : Tree) : Type 0 where
+pub record IsSpecified (us : List UnitTree) (cs : List Statement) (σ : Scope) (initial action : Tree) : Type 0 where
   pub name : Written
   pub one_specification : specifications_named cs ≡ name ∷ []
   pub no_init : initials_named cs ≡ []
   pub no_next : nexts_named cs ≡ []
-  pub form : IsSpecification us (items_of cs) (global us (items_of cs)) (length (variables_of us)) name initial action
+  pub form : IsSpecification us (items_of cs) σ (length (variables_of us)) name initial action
 
-abbrev pub IsBehaviour : List UnitTree → List Statement → Tree → Tree → Type 0
-IsBehaviour us cs initial action = IsNamed cs initial action ⊎ IsSpecified us cs initial action
+abbrev pub IsBehaviour : List UnitTree → List Statement → Scope → Tree → Tree → Type 0
+IsBehaviour us cs σ initial action = IsNamed cs initial action ⊎ IsSpecified us cs σ initial action
 
--- No name is brought in twice or used as it may not be, each constant has one value, no replacement leads back to its name, exactly one INIT and one NEXT name the behaviour, or
--- SPECIFICATION alone, and the configuration names definitions without parameters.
+-- The module is well scoped, each constant has an item, the configuration names definitions without parameters, no
+-- item leads back to its name, and exactly one INIT and one NEXT name the behaviour, or SPECIFICATION alone.
 pub record IsModel (us : List UnitTree) (cs : List Statement) (m : ModelTree) : Type 0 where
-  pub known : misuse us ≡ None
+  pub known : IsWellScopedModule us
   pub given : items_misused (replaceable_of us) (nameable_of us) [] (items_of cs) ≡ None
-  pub valued : unvalued (replaced_names (items_of cs)) us ≡ None
-  pub named : names_misused (definitions_of us) cs ≡ None
+  pub valued : AreAssigned (replaced_names (items_of cs)) us
+  pub named : AreNamed (definitions_of us) cs
   pub straight : AreStraight (references us (items_of cs)) (items_of cs)
+  pub scope : Scope
+  pub is_scope : IsScopeOf us (items_of cs) scope
   pub initial : Tree
   pub action : Tree
-  pub behaviour : IsBehaviour us cs initial action
+  pub behaviour : IsBehaviour us cs scope initial action
   pub variables : m.variables ≡ variables_of us
-  pub assumptions : AreAssumptions (global us (items_of cs)) (assumptions_of us) m.assumptions
-  pub init : IsInitial (global us (items_of cs)) initial m.init
-  pub next : IsAction (global us (items_of cs)) action m.next
-  pub invariants : AreStatePredicates (global us (items_of cs)) (invariants_named cs) m.invariants
-  pub constraints : AreStatePredicates (global us (items_of cs)) (constraints_named cs) m.constraints
+  pub assumptions : AreAssumptions scope (assumptions_of us) m.assumptions
+  pub init : IsInitial scope initial m.init
+  pub next : IsAction scope action m.next
+  pub invariants : AreStatePredicates scope (invariants_named cs) m.invariants
+  pub constraints : AreStatePredicates scope (constraints_named cs) m.constraints
   pub check_deadlock : m.check_deadlock ≡ checks_deadlock cs

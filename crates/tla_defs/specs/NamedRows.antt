@@ -1,4 +1,5 @@
--- Modules with names in their expressions, with the models that they name: a definition with a parameter, LET, and a bound name that meets one of a definition.
+-- Modules with names in their expressions, with the models that they name: a definition with a parameter, LET, and a
+-- bound name that meets one of a definition.
 use Rattle.std.specs.Prelude.{ℕ, true, List, [], ◌∷◌, codes}
 use Rattle.tla_core.specs.Expr.{Expr, next, bound, binary, equal, enumerated, conjunction, for_some, no_exprs, more_exprs}
 use Rattle.tla_core.specs.Expr as e

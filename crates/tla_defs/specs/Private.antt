@@ -8,3 +8,4 @@ pub mod Conjuncts
 pub mod Splits
 pub mod Visits
 pub mod Specified
+pub mod Passes

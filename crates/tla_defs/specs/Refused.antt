@@ -1,4 +1,5 @@
--- Why a module and a configuration name no model: the first step that refuses them, and where (this project's own choice).
+-- Why a module and a configuration name no model: the first step that refuses them, and where (this project's own
+-- choice).
 use Rattle.std.specs.Prelude.{◌≡◌, ◌≤◌, ◌⊎◌, ℕ, true, is_some, length, List, [], ◌∷◌, Option, Some, None, Result, Ok, Err}
 use Rattle.tla_lex.specs.declared.token.Place.{Place}
 use Rattle.tla_tree.specs.declared.word.Written.{Written}
@@ -22,7 +23,7 @@ use Rattle.tla_names.specs.Named.{names_misused}
 use Rattle.tla_names.specs.Refusal.{refusal_at, refusal_for}
 use Rattle.tla_items.specs.Refusal.{items_refused, IsOfCycle}
 use Rattle.tla_defs.specs.Bodies.{body_of}
-use Rattle.tla_defs.specs.Global.{global}
+use Rattle.tla_defs.specs.Global.{IsScopeOf}
 use Rattle.tla_formulas.specs.Formulas.{meaning_in}
 use Rattle.tla_formulas.specs.Refused.{IsOfFormula}
 use Rattle.tla_defs.specs.Model.{IsBehaviour, assumptions_of, invariants_named, constraints_named}
@@ -66,7 +67,8 @@ abbrev pub behaviour_refused : List UnitTree → List Statement → Result Behav
 behaviour_refused us cs (Err p) = Some (refusal_at c.BehaviourCount source.Configuration p)
 behaviour_refused us cs (Ok b) = refusal_for source.Configuration (names_misused (definitions_of us) cs)
 
--- The names of the module, then the items of CONSTANT, then a constant without a value, then the behaviour, then the names of the configuration.
+-- The names of the module, then the items of CONSTANT, then a constant without a value, then the behaviour, then the
+-- names of the configuration.
 abbrev pub refused : List UnitTree → ConfigTree → Option DefsError
 refused us config =
     or_else (refusal_for source.Module (misuse us))
@@ -82,13 +84,14 @@ abbrev pub IsOfPredicate : Scope → List Written → DefsError → Type 0
 IsOfPredicate σ [] e = ⊥
 IsOfPredicate σ (w ∷ ws) e = IsOfFormula (meaning_in σ w) Once e ⊎ IsOfPredicate σ ws e
 
--- A formula of the model is refused: an assumption (constant level), the initial predicate (state level, over the variables next), the action, an invariant or a constraint (state level).
-pub data IsOfSome (us : List UnitTree) (cs : List Statement) (e : DefsError) : Type 0 where
-  of_assumption : IsOfAssumption (global us (items_of cs)) (assumptions_of us) e → IsOfSome us cs e
-  of_initial : (i a : Tree) → IsBehaviour us cs i a → IsOfFormula (expand i (global us (items_of cs)) 0) Once e → IsOfSome us cs e
-  of_action : (i a : Tree) → IsBehaviour us cs i a → IsOfFormula (expand a (global us (items_of cs)) 0) Never e → IsOfSome us cs e
-  of_invariant : IsOfPredicate (global us (items_of cs)) (invariants_named cs) e → IsOfSome us cs e
-  of_constraint : IsOfPredicate (global us (items_of cs)) (constraints_named cs) e → IsOfSome us cs e
+-- A formula of the model is refused: an assumption (constant level), the initial predicate (state level, over the
+-- variables next), the action, an invariant or a constraint (state level).
+pub data IsOfSome (us : List UnitTree) (cs : List Statement) (σ : Scope) (e : DefsError) : Type 0 where
+  of_assumption : IsOfAssumption σ (assumptions_of us) e → IsOfSome us cs σ e
+  of_initial : (i a : Tree) → IsBehaviour us cs σ i a → IsOfFormula (expand i σ 0) Once e → IsOfSome us cs σ e
+  of_action : (i a : Tree) → IsBehaviour us cs σ i a → IsOfFormula (expand a σ 0) Never e → IsOfSome us cs σ e
+  of_invariant : IsOfPredicate σ (invariants_named cs) e → IsOfSome us cs σ e
+  of_constraint : IsOfPredicate σ (constraints_named cs) e → IsOfSome us cs σ e
 
 -- too large, at some place of the module
 pub record IsTooLarge (e : DefsError) : Type 0 where
@@ -108,19 +111,20 @@ abbrev pub NoForm : List UnitTree → List Item → Scope → ℕ → Written �
 NoForm us is σ n w = (i a : Tree) → IsSpecification us is σ n w i a → with_primes Once (expand i σ 0) ≡ None
 
 -- SPECIFICATION is alone, and the formula that it names is not of the form, or has too many conjuncts for it
-abbrev pub IsFormRefused : List UnitTree → List Item → Result Behaviour Place → DefsError → Type 0
-IsFormRefused us is (Ok (Specified p w)) e = ((refusal_at c.SpecificationForm source.Configuration p ≡ e) × NoForm us is (global us is) (length (variables_of us)) w) ⊎ (IsTooLarge e × HasTooMany us is w)
-IsFormRefused us is _ e = ⊥
+abbrev pub IsFormRefused : List UnitTree → List Item → Scope → Result Behaviour Place → DefsError → Type 0
+IsFormRefused us is σ (Ok (Specified p w)) e = ((refusal_at c.SpecificationForm source.Configuration p ≡ e) × NoForm us is σ (length (variables_of us)) w) ⊎ (IsTooLarge e × HasTooMany us is w)
+IsFormRefused us is σ _ e = ⊥
 
 -- after all other steps: the form of the specification, or a formula
 abbrev pub IsLast : List UnitTree → List Statement → Result Behaviour Place → DefsError → Type 0
-IsLast us cs b e = IsFormRefused us (items_of cs) b e ⊎ IsOfSome us cs e
+IsLast us cs b e = (σ : Scope) × IsScopeOf us (items_of cs) σ × (IsFormRefused us (items_of cs) σ b e ⊎ IsOfSome us cs σ e)
 
 -- after the steps that check names: an item that leads back to its name, or the last steps
 abbrev pub refusal_is : List UnitTree → List Statement → Option DefsError → Result Behaviour Place → DefsError → Type 0
 refusal_is us cs (Some r) b e = r ≡ e
 refusal_is us cs None b e = IsOfCycle (references us (items_of cs)) (items_of cs) e ⊎ (AreStraight (references us (items_of cs)) (items_of cs) × IsLast us cs b e)
 
--- The first step that refuses a module and a configuration, or, where none does, the first item that leads back to its name, or else the specification or a formula.
+-- The first step that refuses a module and a configuration, or, where none does, the first item that leads back to
+-- its name, or else the specification or a formula.
 abbrev pub IsRefusal : List UnitTree → ConfigTree → DefsError → Type 0
 IsRefusal us config e = refusal_is us config.statements (refused us config) (behaviour config.statements config.end None None) e

@@ -1,4 +1,5 @@
--- The formula that SPECIFICATION names: Init /\ [][Next]_v, and fairness (book, chapters 8 and 14; what a name in it is replaced by: this project's own choice).
+-- The formula that SPECIFICATION names: Init /\ [][Next]_v, and fairness (book, chapters 8 and 14; what a name in it
+-- is replaced by: this project's own choice).
 use Rattle.std.specs.Prelude.{◌≡◌, ℕ, zero, suc, Bool, true, false, not, ◌&&◌, ◌||◌, if◌then◌else◌, List, [], ◌∷◌, ◌++◌, Option, Some, None, is_some, unwrap_or, filter, length}
 use Rattle.std.specs.List.{filter_map}
 use Rattle.tla_tree.specs.declared.word.Written.{Written}
@@ -19,7 +20,8 @@ use Rattle.tla_defs.specs.Fairness.{fair}
 use Rattle.tla_defs.specs.Subscripts.{IsCover}
 use Rattle.tla_defs.specs.Temporal.{temporal_of}
 
--- The conjuncts of a formula: those of the parts of a conjunction, and of what a name is replaced by. Any other formula is one itself.
+-- The conjuncts of a formula: those of the parts of a conjunction, and of what a name is replaced by. Any other
+-- formula is one itself.
 abbrev mutual
   pub conjuncts_in : (Name → Option (List Tree)) → Tree → List Tree
   conjuncts_in ρ (t.Name w) = unwrap_or (ρ w.word) (t.Name w ∷ [])

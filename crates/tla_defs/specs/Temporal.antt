@@ -1,4 +1,5 @@
--- Temporal formulas in the formula that SPECIFICATION names (book, chapters 8 and 16; that names of such formulas are replaced by them: this project's own choice).
+-- Temporal formulas in the formula that SPECIFICATION names (book, chapters 8 and 16; that names of such formulas are
+-- replaced by them: this project's own choice).
 use Rattle.std.specs.Prelude.{ℕ, Bool, true, false, ◌||◌, [], ◌++◌}
 use Rattle.tla_tree.specs.declared.tree.Infix.{Infix}
 use Rattle.tla_tree.specs.declared.tree.Infix.TheVariants as op

@@ -12,6 +12,7 @@ ghost use Rattle.tla_tree.specs.UnitsView.{unit_view};
 ghost use Rattle.tla_tree.specs.View.{view, definition_view};
 ghost use Rattle.tla_defs.specs.Given as given_names;
 ghost use Rattle.tla_defs.specs.Global as global;
+ghost use Rattle.tla_defs.specs.Private.Passes as passes;
 ghost use Rattle.tla_items.specs.Items as items;
 ghost use Rattle.tla_names.specs.Scope.{signature};
 
@@ -276,7 +277,7 @@ fn raised<'a>(
         ≡ global.meant (map unit_view units.now) given.now standard }
     ensures ok { IfOk result (λ s.
         scope_of s.value
-        ≡ global.raised (map unit_view units.now) given.now given.now
+        ≡ passes.raised (map unit_view units.now) given.now given.now
         (scope_of scopes.entry.value)) }
     ensures err { IfErr result (λ e. e.code ≡ Memory) }
 {
@@ -303,7 +304,7 @@ pub(crate) fn global_scope<'a>(
     given: &Items<'a>,
 ) -> Result<Box<Scopes<'a>>, DefsError>
     ensures ok { IfOk result (λ s.
-        scope_of s.value ≡ global.global (map unit_view units.now) given.now) }
+        scope_of s.value ≡ passes.global (map unit_view units.now) given.now) }
     ensures err { IfErr result (λ e. e.code ≡ Memory) }
 {
     let replaced = given.names(alloc)?;

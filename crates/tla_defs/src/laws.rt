@@ -1,10 +1,18 @@
 //! Laws of models, over their definitions alone.
 
-ghost use Rattle.tla_defs.specs.Laws.{OnlyModel, NoneRefused, IsAlwaysSound, FindsBehaviour};
+ghost use Rattle.tla_defs.specs.Laws.{HasScope, OnlyScope, OnlyModel, NoneRefused, IsAlwaysSound, FindsBehaviour};
 ghost use Rattle.tla_defs.specs.Rows.{CounterOfThree, CounterOfFive, BoundedSteps, BoundedStepsMayEnd, CountsWithin, LargestNumber};
 ghost use Rattle.tla_defs.specs.GivenRows.{WithValue, WithReplacement, Cycle, TwoVariables};
 ghost use Rattle.tla_defs.specs.SpecificationRows.{Specified, SpecifiedInParts, SpecifiedByNames};
 ghost use Rattle.tla_defs.specs.NamedRows.{WithParameter, WithLet, WithoutCapture};
+
+/// If no item leads back to its name, a module has exactly one scope in which each name means its definition, and a
+/// name
+/// with an item `c <- Op` what Op means there.
+pub fn one_scope()
+    ensures has { HasScope }
+    ensures only { OnlyScope }
+{}
 
 /// A module and a configuration name at most one model.
 pub fn one_model()

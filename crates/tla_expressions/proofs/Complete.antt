@@ -17,12 +17,13 @@ use Rattle.tla_tree.specs.Tree.{Tree, Trees, Pattern, Binders, Arms, Other, Defi
 use Rattle.tla_grammar.specs.Operators.{low, high, prefix_low, prefix_high, prefix_of, bullet_of, quantifier_of, constant_of, is_product}
 use Rattle.tla_tree.specs.Places.{place}
 use Rattle.tla_grammar.specs.Edges.{yields, edge_allows, top_above, is_closed, depth, definition_depth}
-use Rattle.tla_tree.specs.Words.{written}
+use Rattle.tla_tree.specs.Words.{word_of, written}
 use Rattle.tla_grammar.specs.Tokens.{seen, goes_on, is_bullet_at, may_follow, Has}
 use Rattle.tla_grammar.specs.Kinds.{kind_at}
 use Rattle.tla_grammar.specs.Grammar.{Spells, Defines, within}
 use Rattle.tla_expressions.specs.ReadingLists.{call, paren}
 use Rattle.tla_expressions.specs.Reading.{named, indexed, turn, junction, quantified, chosen, cases, lets, choice, prefix, by_class, operand, definition, expr}
+use Rattle.tla_lex.proofs.StringTexts.{text_is_read}
 use Rattle.tla_grammar.proofs.Inversion.{and_true, ok_to}
 use Rattle.tla_expressions.proofs.Steps.{climb_more}
 use Rattle.tla_expressions.proofs.Follow.{low_high, prefix_low_high, yields_low, end_mono, stop_by, end_plain, stops_plain, end_infix, sees_infix, not_true}
@@ -54,7 +55,7 @@ module _ (text : List ℕ) (ts : List Token) where
 
   text_opens : (p : Place) (y : List ℕ) → Opens text ts (Text p y)
   unfolding operand
-  text_opens p y n s from to x d nc = rw (x.1, x.2, x.3, x.4, x.5) refl
+  text_opens p y n s from to x d nc = rw (x.1, x.2, x.3, (text_is_read (word_of text x.0) y).1 x.4, x.5) refl
 
   at_opens : (p : Place) → Opens text ts (At p)
   unfolding operand

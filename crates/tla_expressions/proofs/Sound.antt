@@ -3,7 +3,8 @@ use Rattle.std.proofs.Common.{◌≡◌, ℕ, zero, suc, ◌+◌, true, not, ◌
 use Rattle.tla_lex.specs.declared.token.Token.{Token}
 use Rattle.tla_lex.specs.declared.token.Kind.{Kind}
 use Rattle.tla_lex.specs.declared.token.Kind.TheVariants as k
-use Rattle.tla_lex.specs.Strings.{string_text}
+use Rattle.tla_lex.specs.StringLoops.{string_text}
+use Rattle.tla_lex.proofs.StringTexts.{is_text}
 use Rattle.tla_grammar.specs.declared.context.Context.{Context}
 use Rattle.tla_tree.specs.declared.tree.Infix.{Infix}
 use Rattle.tla_tree.specs.declared.tree.Prefix.{Prefix}
@@ -125,7 +126,7 @@ module _ (text : List ℕ) (ts : List Token) where
     by_sound most s t at k.Name z i e h =
         let x = bind_ok (named text ts inner s t at) (postfixes text ts inner most s) z h in
         postfixes_sound text ts inner good most s at x.0 x.1 z (named_sound text ts inner good s t at (x.0, x.1) i e x.2) x.3
-    by_sound most s t at k.Text z i e h = postfixes_sound text ts inner good most s at (Text t.place (string_text (word_of text t))) (at + 1) z ((t, i, e, refl, refl, refl), refl) h
+    by_sound most s t at k.Text z i e h = postfixes_sound text ts inner good most s at (Text t.place (string_text (word_of text t))) (at + 1) z ((t, i, e, refl, is_text (word_of text t), refl), refl) h
     by_sound most s t at k.LeftBrace z i e h =
         let x = bind_ok (brace text ts inner s t.place at) (postfixes text ts inner most s) z h in
         postfixes_sound text ts inner good most s at x.0 x.1 z (brace_sound text ts inner good s t at (x.0, x.1) i e x.2) x.3

@@ -1,10 +1,11 @@
--- The one tree that tokens can spell, found from the left. It has the shape of the code; what a tree spells is said in Grammar.
+-- The one tree that tokens can spell, found from the left. It has the shape of the code; what a tree spells is said
+-- in Grammar.
 use Rattle.std.specs.Prelude.{ℕ, zero, suc, ◌+◌, not, ◌||◌, nat_le, if◌then◌else◌, List, [], length, slice_get, Ok, Err}
 use Rattle.tla_lex.specs.declared.token.Place.{Place}
 use Rattle.tla_lex.specs.declared.token.Token.{Token}
 use Rattle.tla_lex.specs.declared.token.Kind.{Kind}
 use Rattle.tla_lex.specs.declared.token.Kind.TheVariants as k
-use Rattle.tla_lex.specs.Strings.{string_text}
+use Rattle.tla_lex.specs.StringLoops.{string_text}
 use Rattle.tla_grammar.specs.declared.context.Context.{Context}
 use Rattle.tla_grammar.specs.declared.tokens.Between.TheVariants as between
 use Rattle.tla_tree.specs.declared.tree.Infix.{Infix}

@@ -19,6 +19,13 @@ use tla_grammar::{
 use tla_lex::{Kind, Place, Token};
 use tla_tree::{Brackets, Expr, Fairness, Step, Written, push_inner};
 
+/// The token that opens a form: its number and its place.
+#[derive(Clone, Copy)]
+struct Opener {
+    start: usize,
+    place: Place,
+}
+
 impl<R: ExpressionReader> Grammar<R> {
     /// The expressions after the first, and the closing bracket.
     #[tactic(auto, unfolding(crate::specs::ReadingBrackets::others))]
@@ -92,15 +99,14 @@ impl<R: ExpressionReader> Grammar<R> {
         }
     }
 
-    /// The action that began at the token with this number, with the subscript after its closing bracket.
+    /// The action that this token opened, with the subscript after its closing bracket.
     #[tactic(auto, unfolding(crate::specs::ReadingBrackets::action))]
     fn action(
         &self,
         text: &[u8],
         tokens: &[Token],
         context: Context,
-        start: usize,
-        at: Place,
+        opener: Opener,
         step: Step,
         first: Parsed,
     ) -> Result<Parsed, Refusal>
@@ -111,16 +117,16 @@ impl<R: ExpressionReader> Grammar<R> {
         requires small { self.now.depth ≤ MAX_DEPTH }
         ensures { Gives text.now tokens.now (self.now.depth + 1) result
             (reading.action text.now tokens.now (expr text.now tokens.now self.now.depth)
-            (self.now.depth + 1) context at step (view first.tree.value) first.end) }
+            (self.now.depth + 1) context opener.place step (view first.tree.value) first.end) }
     {
         let subscript = self.subscript(text, tokens, context, first.end + 1)?;
         let depth = first.depth.max(subscript.depth) + 1;
         if depth > self.depth + 1 {
-            return Err(Refusal::Nesting(start));
+            return Err(Refusal::Nesting(opener.start));
         }
         node(
             self.alloc,
-            Expr::Action(at, step, first.tree, subscript.tree),
+            Expr::Action(opener.place, step, first.tree, subscript.tree),
             subscript.end,
             depth,
         )
@@ -329,7 +335,11 @@ impl<R: ExpressionReader> Grammar<R> {
             Kind::RightTupleSubscript,
             seen(tokens, context.column, first.end),
         ) {
-            return self.action(text, tokens, context, from, at, Step::Angle, first);
+            let opener = Opener {
+                start: from,
+                place: at,
+            };
+            return self.action(text, tokens, context, opener, Step::Angle, first);
         }
         let found = self.others(text, tokens, context, Kind::RightTuple, first)?;
         let end = found.end;
@@ -439,7 +449,8 @@ impl<R: ExpressionReader> Grammar<R> {
             drop(first);
             return Err(refused(tokens, context.column, end));
         }
-        self.action(text, tokens, context, start, at, Step::Box, first)
+        let opener = Opener { start, place: at };
+        self.action(text, tokens, context, opener, Step::Box, first)
     }
 
     /// A form in brackets.

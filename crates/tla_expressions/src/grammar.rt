@@ -9,7 +9,7 @@ ghost use Rattle.tla_expressions.specs.Reading as reading;
 ghost use Rattle.tla_expressions.specs.Gives.{Gives, GivesDefinition};
 
 use crate::parts::{Parsed, ParsedDefinition, index_of, node};
-use crate::reader::ExpressionReader;
+use crate::reader::{ExpressionReader, Start};
 use std::alloc::Global;
 use tla_grammar::{
     Context, Postfix, Refusal, bullet_of, constant_of, edge_allows, high, is_product, name_at,
@@ -41,8 +41,9 @@ impl<R: ExpressionReader> Grammar<R> {
         ensures { Gives text.now tokens.now self.now.depth result
             (reading.expr text.now tokens.now self.now.depth context floor at) }
     {
+        let start = Start { context, floor, at };
         self.reader
-            .read(self.alloc, text, tokens, self.depth, context, floor, at)
+            .read(self.alloc, text, tokens, self.depth, start)
     }
 
     /// `f[e, ..]`, after the tree of f, which begins at the token with this number.
@@ -328,7 +329,7 @@ impl<R: ExpressionReader> Grammar<R> {
     }
 
     /// An expression whose top is no infix operator.
-    #[tactic(auto, unfolding(crate::specs::Reading::operand))]
+    #[tactic(auto, unfolding(crate::specs::Reading::operand), using(tla_lex::proofs::StringTexts::reads_text))]
     fn operand(
         &self,
         text: &[u8],

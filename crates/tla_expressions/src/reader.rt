@@ -10,6 +10,14 @@ use std::alloc::Global;
 use tla_grammar::{Context, Refusal};
 use tla_lex::Token;
 
+/// Which expression to parse: its context, the floor that its top is above, and the number of its first token.
+#[derive(Clone, Copy)]
+pub struct Start {
+    pub context: Context,
+    pub floor: u8,
+    pub at: usize,
+}
+
 /// Parses an expression of at most `depth` levels, in a context, whose top is above a floor.
 pub trait ExpressionReader {
     // expressions of this many levels may be parsed
@@ -21,13 +29,11 @@ pub trait ExpressionReader {
         text: &[u8],
         tokens: &[Token],
         depth: usize,
-        context: Context,
-        floor: u8,
-        at: usize,
+        start: Start,
     ) -> Result<Parsed, Refusal>
         requires { reads_to self.now depth }
         ensures { Gives text.now tokens.now depth result
-            (expr text.now tokens.now depth context floor at) };
+            (expr text.now tokens.now depth start.context start.floor start.at) };
 }
 
 impl<
@@ -41,10 +47,16 @@ impl<
         text: &[u8],
         tokens: &[Token],
         depth: usize,
-        context: Context,
-        floor: u8,
-        at: usize,
+        start: Start,
     ) -> Result<Parsed, Refusal> {
-        self(alloc, text, tokens, depth, context, floor, at)
+        self(
+            alloc,
+            text,
+            tokens,
+            depth,
+            start.context,
+            start.floor,
+            start.at,
+        )
     }
 }

@@ -1,3 +1,4 @@
+pub mod Balanced
 pub mod Factors
 pub mod Fails
 pub mod Inversion

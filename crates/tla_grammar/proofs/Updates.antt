@@ -1,10 +1,11 @@
 -- Going back over tokens, whether they are inside EXCEPT.
-use Rattle.std.proofs.Common.{◌≡◌, ◌≤◌, ◌↔◌, ℕ, zero, suc, ◌-◌, ◌+◌, Some, List, inl, inr, refl, sym, ap, ◌∙◌, subst, arith}
+use Rattle.std.proofs.Common.{◌≡◌, ◌≤◌, ◌↔◌, ℕ, zero, suc, ◌-◌, ◌+◌, Some, List, length, inl, inr, refl, sym, ap, ◌∙◌, subst, arith}
 use Rattle.std.specs.List.{slice_get}
 use Rattle.std.proofs.lemmas.Option.{same_Some}
 use Rattle.tla_lex.specs.declared.token.Token.{Token}
 use Rattle.tla_lex.specs.declared.token.Kind.TheVariants as k
-use Rattle.tla_grammar.specs.LeftOut.{after_role, open_after, IsInExcept, IsUnderExcept}
+use Rattle.tla_grammar.specs.LeftOut.{IsInExcept}
+use Rattle.tla_grammar.proofs.Balanced.{after_role, open_after, IsUnderExcept, in_except}
 use Rattle.tla_grammar.specs.Kinds.{role_of}
 use Rattle.tla_grammar.specs.Private.Open.{least_before}
 use Rattle.tla_grammar.specs.declared.ahead.Role.{Role}
@@ -15,8 +16,8 @@ module _ (ts : List Token) where
   abbrev pub IsWithin : ℕ → ℕ → Type 0
   IsWithin at least = (m : ℕ) × (least ≤ m) × IsUnderExcept ts at m
 
-  pub within_any : (at : ℕ) → IsWithin at 0 ↔ IsInExcept ts at
-  within_any at = (λ h. (h.0, h.2), λ h. (h.0, omega arith, h.1))
+  pub within_any : (at : ℕ) → at ≤ length ts → IsWithin at 0 ↔ IsInExcept ts at
+  within_any at w = let same = in_except ts at w in (λ h. same.0 (h.0, h.2), λ x. let h = same.1 x in (h.0, omega arith, h.1))
 
   pub within_none : (least : ℕ) → IsWithin 0 least → ⊥
   within_none least h = h.2

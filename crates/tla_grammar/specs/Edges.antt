@@ -9,7 +9,8 @@ use Rattle.tla_tree.specs.Tree.{Tree, Trees, Binders, Arms, Other, Definition, D
 abbrev pub yields : Infix → Infix → Bool
 yields first second = nat_lt (high second) (low first) || (nat_lt 0 (left_group first) && nat_eq (left_group first) (left_group second))
 
--- the tree may be the left operand: every operator on its right edge is above this one or is this one and groups to the left, and no open form is on it
+-- the tree may be the left operand: every operator on its right edge is above this one or is this one and groups to
+-- the left, and no open form is on it
 abbrev mutual
   pub edge_allows : Tree → Infix → Bool
   edge_allows (Binary _ first _ _ r) op = yields first op && edge_allows r op

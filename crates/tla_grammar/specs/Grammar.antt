@@ -3,7 +3,7 @@ use Rattle.std.specs.Prelude.{◌≡◌, ℕ, ◌+◌, Bool, true, false, not, �
 use Rattle.tla_lex.specs.declared.token.Token.{Token}
 use Rattle.tla_lex.specs.declared.token.Kind.{Kind}
 use Rattle.tla_lex.specs.declared.token.Kind.TheVariants as k
-use Rattle.tla_lex.specs.Strings.{string_text}
+use Rattle.tla_lex.specs.Strings.{IsTextOf}
 use Rattle.tla_grammar.specs.declared.context.Context.{Context}
 use Rattle.tla_tree.specs.declared.tree.Bullet.{Bullet}
 use Rattle.tla_tree.specs.declared.tree.Infix.TheVariants as i
@@ -50,7 +50,7 @@ module _ (text : List ℕ) (ts : List Token) where
     pub Spells : Context → Tree → ℕ → ℕ → Type 0
     Spells s (Name w) from to = Writes ts text s.column k.Name w from × (to ≡ from + 1)
     Spells s (Number p n) from to = Is ts s.column (k.Number n) p from × (to ≡ from + 1)
-    Spells s (Text p x) from to = (t : Token) × (seen ts s.column from ≡ Some t) × (t.kind ≡ k.Text) × (t.place ≡ p) × (string_text (word_of text t) ≡ x) × (to ≡ from + 1)
+    Spells s (Text p x) from to = (t : Token) × (seen ts s.column from ≡ Some t) × (t.kind ≡ k.Text) × (t.place ≡ p) × IsTextOf (word_of text t) x × (to ≡ from + 1)
     Spells s (Word p c) from to = (kind : Kind) × Is ts s.column kind p from × (constant_of kind ≡ Some c) × (to ≡ from + 1)
     Spells s (At p) from to = Is ts s.column k.At p from × IsTrue s.updating × (to ≡ from + 1)
     Spells s (Paren p e) from to = (mid : ℕ) × Is ts s.column k.LeftParen p from × Spells s e (from + 1) mid × Has ts s.column k.RightParen mid × (to ≡ mid + 1)

@@ -1,5 +1,5 @@
 -- The forms of the book's language that this one leaves out.
-use Rattle.std.specs.Prelude.{◌≡◌, ◌≤◌, ◌<◌, ◌⊎◌, ℕ, zero, suc, ◌+◌, Bool, true, false, not, IsTrue, List, Option, None, Some, slice_get, take, drop, length, ◌-◌}
+use Rattle.std.specs.Prelude.{◌≡◌, ◌≤◌, ◌<◌, ◌⊎◌, ℕ, zero, suc, ◌+◌, Bool, true, false, not, IsTrue, List, Some, slice_get, take, drop, length, ◌-◌}
 use Rattle.std.specs.List.{list_all}
 use Rattle.tla_lex.specs.Bytes.{is_space_or_tab}
 use Rattle.tla_lex.specs.declared.token.Token.{Token}
@@ -36,18 +36,10 @@ is_left_out k.MinusMinus = true
 is_left_out k.Guarantees = true
 is_left_out _ = false
 
-abbrev pub one_less : ℕ → Option ℕ
-one_less zero = None
-one_less (suc n) = Some n
-
--- how many brackets are open after a token, given how many are open before it: None if it closes one that isn't open
-abbrev pub after_role : Role → ℕ → Option ℕ
-after_role role.Opens n = Some (suc n)
-after_role role.Closes n = one_less n
-after_role _ n = Some n
-
-abbrev pub open_after : Kind → ℕ → Option ℕ
-open_after kind n = after_role (role_of kind) n
+abbrev pub is_bracket : Role → Bool
+is_bracket role.Opens = true
+is_bracket role.Closes = true
+is_bracket _ = false
 
 -- there are spaces or tabs between these bytes, one or more
 abbrev pub AreApart : List ℕ → ℕ → ℕ → Type 0
@@ -58,15 +50,27 @@ module _ (ts : List Token) where
   abbrev pub IsWordLeftOut : ℕ → Type 0
   IsWordLeftOut at = (t : Token) × (slice_get ts at ≡ Some t) × IsTrue (is_left_out t.kind)
 
-  -- before the token with this number there is an EXCEPT; since then this many brackets were opened that are still
-  -- open, and none was closed that was open at it
-  abbrev pub IsUnderExcept : ℕ → ℕ → Type 0
-  IsUnderExcept zero n = ⊥
-  IsUnderExcept (suc at) n = (KindAt ts at k.Except × (n ≡ 0)) ⊎ ((m : ℕ) × IsUnderExcept at m × (t : Token) × (slice_get ts at ≡ Some t) × (open_after t.kind m ≡ Some n))
+  -- there is a token in this role
+  abbrev pub HasRole : Role → ℕ → Type 0
+  HasRole r at = (t : Token) × (slice_get ts at ≡ Some t) × (role_of t.kind ≡ r)
 
-  -- inside an EXCEPT, at any depth: the brackets around it are still open
+  abbrev pub IsNoBracket : ℕ → Type 0
+  IsNoBracket at = (t : Token) × (slice_get ts at ≡ Some t) × (is_bracket (role_of t.kind) ≡ false)
+
+  -- The tokens from one number up to another are balanced: each bracket that opens among them is closed among them, and
+  -- no other is.
+  pub data IsBalanced : ℕ → ℕ → Type 0 where
+    nothing : (at : ℕ) → IsBalanced at at
+    no_bracket : (from to : ℕ) → IsNoBracket from → IsBalanced (suc from) to → IsBalanced from to
+    brackets : (from close to : ℕ) → HasRole role.Opens from → IsBalanced (suc from) close → HasRole role.Closes close → IsBalanced (suc close) to → IsBalanced from to
+
+  -- a closing bracket closes the bracket around this token: the tokens between are balanced
+  abbrev pub ClosesAround : ℕ → ℕ → Type 0
+  ClosesAround at close = HasRole role.Closes close × IsBalanced (suc at) close
+
+  -- inside an EXCEPT, at any depth: an EXCEPT comes before, and the bracket around it isn't closed before
   abbrev pub IsInExcept : ℕ → Type 0
-  IsInExcept at = (n : ℕ) × IsUnderExcept at n
+  IsInExcept at = (except : ℕ) × (except < at) × KindAt ts except k.Except × ((close : ℕ) → close < at → ClosesAround except close → ⊥)
 
   -- `!` outside EXCEPT: it selects from a module
   abbrev pub IsSelector : ℕ → Type 0

@@ -1,4 +1,5 @@
--- The operators: their ranges (this project's own choice, after the book's table in chapter 15), and the tokens that write them.
+-- The operators: their ranges (this project's own choice, after the book's table in chapter 15), and the tokens that
+-- write them.
 use Rattle.std.specs.Prelude.{ℕ, Option, Some, None, Bool, true, false}
 use Rattle.tla_lex.specs.declared.token.Kind.{Kind}
 use Rattle.tla_lex.specs.declared.token.Kind.TheVariants as k

@@ -1,4 +1,5 @@
-//! The grammar of a module's tokens: operators and their ranges, what a token is and what may follow it, and what a refusal says.
+//! The grammar of a module's tokens: operators and their ranges, what a token is and what may follow it, and what a
+//! refusal says.
 #![tactic(auto)]
 
 mod ahead;

@@ -1,7 +1,7 @@
 //! Tokens as the grammar reads them: by their number in the list, and only right of a column.
 
 ghost use Rattle.std.specs.Prelude.{◌≡◌, ℕ, ◌+◌, ◌^◌, ◌<◌, ◌≤◌, ◌↔◌, length, slice_get, IfOk, IfErr, IfSome, OnSome, IsTrue, Some, None};
-ghost use Rattle.tla_lex.specs.Strings.{string_text};
+ghost use Rattle.tla_lex.specs.Strings.{IsTextOf};
 ghost use Rattle.tla_grammar.specs.Tokens as spec;
 ghost use Rattle.tla_tree.specs.Words as words;
 ghost use Rattle.tla_grammar.specs.Kinds as kinds;
@@ -225,7 +225,7 @@ pub fn name_at(token: Option<Token>) -> Option<Token>
 
 /// The text of a string, with its escapes read.
 pub fn text_of(alloc: Global, text: &[u8], token: Token) -> Result<Word, Refusal>
-    ensures ok { IfOk result (λ w. w ≡ string_text (words.word_of text.now token)) }
+    ensures ok { IfOk result (λ w. IsTextOf (words.word_of text.now token) w) }
     ensures err { IfErr result (λ e. e ≡ Refusal.NoMemory) }
 {
     let literal = slice_of(text, token);

@@ -128,18 +128,22 @@ module _ (ls : List Reference) where
   leads_nowhere x e ([], h) = let k : is_among x [] ≡ true = ap (λ xs. is_among x xs) (sym e) ∙ h in let z : ⊥ = cc in z
   leads_nowhere x e (z ∷ zs, h) = let k : is_among z [] ≡ true = ap (λ xs. is_among z xs) (sym e) ∙ h.0 in let n : ⊥ = cc in n
 
-  -- a name that leads to one other, which leads to none
-  pub leads_to_end : (x y : Name) → next_names ls x ≡ y ∷ [] → next_names ls y ≡ [] → is_among x (y ∷ []) ≡ false → IsCircular ls x → ⊥
-  leads_to_end x y e f g (zs, h) =
-      let k = stays (y ∷ []) covers x x zs (λ z i. ap (λ xs. is_among z xs) (sym e) ∙ i) h in
+  -- a name that leads to one other, and this to one, which leads to none
+  pub leads_to_end : (x y z : Name) → next_names ls x ≡ y ∷ [] → next_names ls y ≡ z ∷ [] → next_names ls z ≡ [] → is_among x (y ∷ z ∷ []) ≡ false → IsCircular ls x → ⊥
+  leads_to_end x y z e f g h (zs, w) =
+      let k = stays (y ∷ z ∷ []) covers x x zs (λ v i. among_first v (y ∷ []) (z ∷ []) (ap (λ xs. is_among v xs) (sym e) ∙ i)) w in
       let n : ⊥ = cc in
       n
     where
-      covers : Covers ls (y ∷ []) (y ∷ [])
-      covers v i z j =
-          let k : is_among z [] ≡ true = ap (λ xs. is_among z xs) (sym (ap (λ w. next_names ls w) (one v y i) ∙ f)) ∙ j in
+      at : (v u : Name) → is_among u (next_names ls v) ≡ true → (is_among v (y ∷ []) ≡ true) ⊎ (is_among v (z ∷ []) ≡ true) → is_among u (y ∷ z ∷ []) ≡ true
+      at v u j (inl i) = among_second u (y ∷ []) (z ∷ []) (ap (λ xs. is_among u xs) (sym (ap (λ t. next_names ls t) (one v y i) ∙ f)) ∙ j)
+      at v u j (inr i) =
+          let k : is_among u [] ≡ true = ap (λ xs. is_among u xs) (sym (ap (λ t. next_names ls t) (one v z i) ∙ g)) ∙ j in
           let n : ⊥ = cc in
           absurd n
+
+      covers : Covers ls (y ∷ z ∷ []) (y ∷ z ∷ [])
+      covers v i u j = at v u j (among_append v (y ∷ []) (z ∷ []) i)
 
 -- what leads to the same names leads the same ways
 module _ (ks ls : List Reference) (same : (x : Name) → next_names ks x ≡ next_names ls x) where

@@ -1,14 +1,11 @@
--- Names with an item `c <- Op` where Op may still mean something else once the names that it leads to do (book, chapters 14 and 17).
-use Rattle.std.specs.Prelude.{Bool, true, List, [], ◌∷◌, ◌++◌, Some, if◌then◌else◌, codes}
+-- Names with an item `c <- Op` where Op may still mean something else once the names that it leads to do (book,
+-- chapters 14 and 17).
+use Rattle.std.specs.Prelude.{Bool, true, List, [], ◌∷◌, ◌++◌, Some, if◌then◌else◌}
 use Rattle.tla_tree.specs.Units.{UnitTree, Operator, Defines, Local, Assume}
 use Rattle.tla_config.specs.Names.{Name, is_among}
 use Rattle.tla_config.specs.Statements.{Item, Value, Replaces}
 use Rattle.tla_names.specs.Scope.{signature}
-use Rattle.tla_items.specs.References.{names_in, names_definition}
-
--- `@` is looked up as a name is
-abbrev pub at_word : Name
-at_word = codes "@"
+use Rattle.tla_items.specs.References.{at_word, names_in, names_definition}
 
 -- whether one of these names, or `@`, is one of those
 abbrev pub meets : List Name → List Name → Bool

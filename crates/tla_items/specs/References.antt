@@ -1,5 +1,6 @@
--- Which name leads to which: a definition to the names in it that are known before it, and a name with an item `c <- Op` to Op (book, chapters 14 and 17).
-use Rattle.std.specs.Prelude.{◌≡◌, true, List, [], ◌∷◌, ◌++◌, Some, is_some, if◌then◌else◌, map}
+-- Which name leads to which: a definition to the names in it that are known before it, and a name with an item `c <-
+-- Op` to Op (book, chapters 14 and 17).
+use Rattle.std.specs.Prelude.{◌≡◌, true, List, [], ◌∷◌, ◌++◌, Some, is_some, if◌then◌else◌, map, codes}
 use Rattle.std.specs.Str.{bytes_eq}
 use Rattle.tla_tree.specs.Tree.{Tree, Trees, none, more, Binders, unbound, bound, Arms, no_arms, arm, Other, no_other, other, Definition, DefinesOperator, DefinesFunction, Definitions, undefined, defined, Fields, no_fields, field, Key, AtIndex, AtField, Keys, no_keys, key, Updates, no_updates, update}
 use Rattle.tla_tree.specs.Tree as t
@@ -98,12 +99,16 @@ known_among σ (x ∷ xs) = if is_some (arity σ x) then x ∷ known_among σ xs
 abbrev pub Reference : Type 0
 Reference = Name × List Name
 
--- what a unit defines leads to the names in it that are known before it
+-- `@` is looked up as a name is, though no text defines it
+abbrev pub at_word : Name
+at_word = codes "@"
+
+-- what a unit defines leads to `@`, and to the names in it that are known before it
 abbrev pub unit_references : Scope → UnitTree → List Reference
-unit_references σ (Operator w e) = (w.word, known_among σ (names_in e)) ∷ []
-unit_references σ (Defines d) = ((signature d).0, known_among σ (names_definition d)) ∷ []
-unit_references σ (Local at d) = ((signature d).0, known_among σ (names_definition d)) ∷ []
-unit_references σ (Assume at (Some w) e) = (w.word, known_among σ (names_in e)) ∷ []
+unit_references σ (Operator w e) = (w.word, at_word ∷ known_among σ (names_in e)) ∷ []
+unit_references σ (Defines d) = ((signature d).0, at_word ∷ known_among σ (names_definition d)) ∷ []
+unit_references σ (Local at d) = ((signature d).0, at_word ∷ known_among σ (names_definition d)) ∷ []
+unit_references σ (Assume at (Some w) e) = (w.word, at_word ∷ known_among σ (names_in e)) ∷ []
 unit_references σ _ = []
 
 abbrev pub units_references : Scope → List UnitTree → List Reference

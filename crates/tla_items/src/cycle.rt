@@ -229,6 +229,7 @@ pub fn straight<'a>(alloc: Global, units: &'a [Unit], items: &Items<'a>) -> Resu
         e.code ≢ Memory
         → IsOfCycle (spec.references (map unit_view units.entry.now) items.now) items.now e) }
 {
-    let references = References::of(alloc, units, items)?;
+    let at = Word::new(b"@".as_slice().to_vec(alloc)?);
+    let references = References::of(alloc, &at, units, items)?;
     each_straight(alloc, &references, items)
 }

@@ -87,9 +87,11 @@ impl<'a> References<'a> {
     fn add_unit(
         &mut self,
         alloc: Global,
+        at: &'a Word,
         scope: &Scope<'_>,
         unit: &'a Unit,
     ) -> Result<(), DefsError>
+        requires { at.now ≡ spec.at_word }
         ensures ok { OnOk result
             ((rest : List spec.Reference) (x : List ℕ)
             → spec.next_names (self.new ++ rest) x
@@ -101,11 +103,11 @@ impl<'a> References<'a> {
     {
         match unit {
             Unit::Operator(name, body) | Unit::Assume(_, Some(name), body) => {
-                let next = known_in(alloc, scope, body)?;
+                let next = known_in(alloc, at, scope, body)?;
                 self.add(name.word.as_bytes(), next)
             }
             Unit::Defines(defined) | Unit::Local(_, defined) => {
-                let next = known_in_definition(alloc, scope, defined)?;
+                let next = known_in_definition(alloc, at, scope, defined)?;
                 self.add(name_of(defined).as_bytes(), next)
             }
             Unit::Separator(_)
@@ -135,7 +137,8 @@ impl<'a> References<'a> {
     }
 
     /// Adds the definitions of a module. The only error is that memory ran out.
-    fn add_units(&mut self, alloc: Global, units: &'a [Unit]) -> Result<(), DefsError>
+    fn add_units(&mut self, alloc: Global, at: &'a Word, units: &'a [Unit]) -> Result<(), DefsError>
+        requires { at.now ≡ spec.at_word }
         ensures ok { OnOk result
             ((x : List ℕ)
             → spec.next_names self.new x
@@ -146,19 +149,22 @@ impl<'a> References<'a> {
         let mut scope = Scope::new(alloc);
         let mut left = units;
         while let [first, rest @ ..] = left {
-            self.add_unit(alloc, &scope, first)?;
+            self.add_unit(alloc, at, &scope, first)?;
             push_brought(&mut scope, first)?;
             left = rest;
         }
         Ok(())
     }
 
-    /// Which name leads to which in a module with these items. The only error is that memory ran out.
+    /// Which name leads to which in a module with these items, given the word `@`. The only error is that memory ran
+    /// out.
     pub(crate) fn of(
         alloc: Global,
+        at: &'a Word,
         units: &'a [Unit],
         items: &Items<'a>,
     ) -> Result<References<'a>, DefsError>
+        requires { at.now ≡ spec.at_word }
         ensures ok { IfOk result (λ ls.
             (x : List ℕ)
             → spec.next_names ls x
@@ -168,21 +174,24 @@ impl<'a> References<'a> {
     {
         let mut references = References::new(alloc);
         references.add_items(alloc, items)?;
-        references.add_units(alloc, units)?;
+        references.add_units(alloc, at, units)?;
         Ok(references)
     }
 }
 
-/// Those of these names that are in scope.
+/// `@`, and those of these names that are in scope.
 fn known_among<'a>(
     alloc: Global,
+    at: &'a Word,
     scope: &Scope<'_>,
     names: &Names<'a>,
 ) -> Result<Names<'a>, DefsError>
-    ensures ok { IfOk result (λ xs. xs ≡ spec.known_among scope.now names.now) }
+    requires { at.now ≡ spec.at_word }
+    ensures ok { IfOk result (λ xs. xs ≡ spec.at_word ∷ spec.known_among scope.now names.now) }
     ensures err { IfErr result (λ e. e.code ≡ Memory) }
 {
     let mut known = Names::new(alloc);
+    known.push(at)?;
     let mut left = names.words();
     while let [first, rest @ ..] = left {
         if scope.knows(first.as_bytes()) {
@@ -193,30 +202,39 @@ fn known_among<'a>(
     Ok(known)
 }
 
-/// The names in an expression that are in scope.
-fn known_in<'a>(alloc: Global, scope: &Scope<'_>, tree: &'a Expr) -> Result<Names<'a>, DefsError>
+/// `@`, and the names in an expression that are in scope.
+fn known_in<'a>(
+    alloc: Global,
+    at: &'a Word,
+    scope: &Scope<'_>,
+    tree: &'a Expr,
+) -> Result<Names<'a>, DefsError>
+    requires { at.now ≡ spec.at_word }
     ensures ok { IfOk result (λ xs.
-        xs ≡ spec.known_among scope.now (spec.names_in (view tree.entry.now))) }
+        xs ≡ spec.at_word ∷ spec.known_among scope.now (spec.names_in (view tree.entry.now))) }
     ensures err { IfErr result (λ e. e.code ≡ Memory) }
 {
     let mut names = Names::new(alloc);
     expression(&mut names, tree)?;
-    known_among(alloc, scope, &names)
+    known_among(alloc, at, scope, &names)
 }
 
-/// The names in a definition that are in scope.
+/// `@`, and the names in a definition that are in scope.
 fn known_in_definition<'a>(
     alloc: Global,
+    at: &'a Word,
     scope: &Scope<'_>,
     defined: &'a Definition,
 ) -> Result<Names<'a>, DefsError>
+    requires { at.now ≡ spec.at_word }
     ensures ok { IfOk result (λ xs.
         xs
-        ≡ spec.known_among scope.now
+        ≡ spec.at_word
+        ∷ spec.known_among scope.now
         (spec.names_definition (definition_view defined.entry.now))) }
     ensures err { IfErr result (λ e. e.code ≡ Memory) }
 {
     let mut names = Names::new(alloc);
     definition(&mut names, defined)?;
-    known_among(alloc, scope, &names)
+    known_among(alloc, at, scope, &names)
 }

@@ -10,8 +10,8 @@ use Rattle.tla_lex.specs.Comments.{opens_line, opens, is_inline, IsLineEnd, IsCo
 use Rattle.tla_lex.specs.Gap.{turn, is_outside}
 use Rattle.tla_lex.specs.InCode.{code}
 use Rattle.tla_lex.specs.Module.{closing_from, closing, is_code, region_after, region_of_code, on_turn}
-use Rattle.tla_lex.specs.Quoted.{IsQuotable, is_literal, IsClosedString, IsOpenString, unclosed, unclosed_escape}
-use Rattle.tla_lex.specs.Quoted as quoted
+use Rattle.tla_lex.specs.Strings.{IsQuotable, is_literal, IsClosedString, IsOpenString, unclosed, unclosed_escape}
+use Rattle.tla_lex.specs.Strings as quoted
 use Rattle.tla_lex.specs.ScannerLaws.{ClosingIsFound}
 use Rattle.tla_lex.specs.declared.closing.Region.{Region}
 use Rattle.tla_lex.specs.declared.closing.Region.TheVariants.{Code, Text, Escape}

@@ -8,8 +8,8 @@ use Rattle.tla_lex.specs.Closing.{IsCode, nothing, comment, string, open_string,
 use Rattle.tla_lex.specs.Comments.{opens_line, opens, is_inline, IsLineEnd}
 use Rattle.tla_lex.specs.Gap.{turn}
 use Rattle.tla_lex.specs.Module.{closing_from, is_code, region_after, region_of_code, on_turn}
-use Rattle.tla_lex.specs.Quoted.{IsQuotable, is_literal, unclosed, unclosed_escape}
-use Rattle.tla_lex.specs.Quoted as quoted
+use Rattle.tla_lex.specs.Strings.{IsQuotable, is_literal, unclosed, unclosed_escape}
+use Rattle.tla_lex.specs.Strings as quoted
 use Rattle.tla_lex.specs.declared.closing.Region.{Region}
 use Rattle.tla_lex.specs.declared.closing.Region.TheVariants.{Code, Text, Escape}
 use Rattle.tla_lex.specs.declared.gap.Mode.{Mode}

@@ -15,7 +15,7 @@ use Rattle.tla_lex.specs.Lexeme.{lexeme}
 use Rattle.tla_lex.specs.Module.{on_turn, region_of_code, region_after}
 use Rattle.tla_lex.specs.Places.{place_at}
 use Rattle.tla_lex.specs.Reads.{Reads, front, behind, begun, begun_at, token_at}
-use Rattle.tla_lex.specs.Strings.{string, end_from}
+use Rattle.tla_lex.specs.StringLoops.{string, end_from}
 use Rattle.tla_lex.specs.Symbols.{symbols, operators}
 use Rattle.tla_lex.specs.declared.closing.Region.TheVariants.{Code, Text}
 use Rattle.tla_lex.specs.declared.gap.Gap.{Gap}

@@ -7,6 +7,8 @@ pub mod Module
 pub mod LongestLemmas
 pub mod Runs
 pub mod QuotedFound
+pub mod StringsFound
+pub mod StringTexts
 pub mod Numbers
 pub mod Shapes
 pub mod LongestWord
@@ -24,5 +26,6 @@ pub mod Firsts
 pub mod ClosingLeads
 pub mod ClosingFound
 pub mod HeaderFound
+pub mod FaultOnce
 pub mod FrontFound
 pub mod SameKind

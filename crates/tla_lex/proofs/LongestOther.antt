@@ -4,7 +4,7 @@ use Rattle.std.specs.Prelude.{IsTrue}
 use Rattle.std.specs.List.{list_all, prefix_len}
 use Rattle.tla_lex.specs.Bytes.{Bytes, first, is_dash, is_quote, is_backslash, is_line_feed}
 use Rattle.tla_lex.specs.LongestToken.{quoted, BeginsWith}
-use Rattle.tla_lex.specs.Strings.{string, end_from}
+use Rattle.tla_lex.specs.StringLoops.{string, end_from}
 use Rattle.tla_lex.specs.declared.lexeme.Lexeme.TheVariants.{Found}
 use Rattle.tla_lex.specs.declared.lexeme.Source.{Source}
 use Rattle.tla_lex.specs.declared.token.Kind.{Kind}

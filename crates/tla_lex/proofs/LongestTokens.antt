@@ -11,7 +11,7 @@ use Rattle.tla_lex.specs.Lexeme.{lexeme}
 use Rattle.tla_lex.specs.LongestToken.{separator, BeginsWith, IsLongest, AreLongest}
 use Rattle.tla_lex.specs.Places.{place_at}
 use Rattle.tla_lex.specs.Reads.{Reads, front, behind, begun, begun_at, token_at}
-use Rattle.tla_lex.specs.Strings.{string}
+use Rattle.tla_lex.specs.StringLoops.{string}
 use Rattle.tla_lex.specs.Symbols.{symbol}
 use Rattle.tla_lex.specs.Words.{word}
 use Rattle.tla_lex.specs.declared.gap.Gap.{Gap}

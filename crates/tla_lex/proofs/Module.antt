@@ -3,16 +3,19 @@ use Rattle.std.proofs.Common.{◌≡◌, ◌≤◌, ◌<◌, ℕ, ◌+◌, List,
 use Rattle.std.proofs.lemmas.List.{take_all}
 use Rattle.std.specs.Str.{IsUtf8}
 use Rattle.tla_lex.specs.Bytes.{Bytes}
+use Rattle.tla_lex.specs.Closing.{IsClosingLine, NoClosingLine}
+use Rattle.tla_lex.specs.Header.{IsHeader}
 use Rattle.tla_lex.specs.Module.{header_end, closing, body, end_or}
 use Rattle.tla_lex.specs.Private.FrontSize.{IsEndPlace}
 use Rattle.tla_lex.specs.Gap.{gap}
 use Rattle.tla_lex.specs.Lexeme.{lexeme}
 use Rattle.tla_lex.specs.Places.{place_at, advance_all, first_place}
 use Rattle.tla_lex.specs.Reads.{Reads, InOrder, front, behind, begun, begun_at, fault_at}
-use Rattle.tla_lex.specs.Tokens.{AreTokens, NoTokens, IsFirstFault, not_utf8, no_header, in_body, no_closing_line, closing_line}
+use Rattle.tla_lex.specs.Tokens.{AreTokens, NoTokens, IsFirstFault, not_utf8, no_header, before_closing_line, in_open_module, no_closing_line, closing_line}
 use Rattle.tla_lex.specs.declared.error.LexError.{LexError}
 use Rattle.tla_lex.specs.declared.error.LexCode.{LexCode}
-use Rattle.tla_lex.specs.declared.error.LexCode.TheVariants.{OpenComment}
+use Rattle.tla_lex.specs.declared.error.LexCode.TheVariants.{OpenComment, NoHeader}
+use Rattle.tla_lex.specs.declared.error.LexCode.TheVariants as code
 use Rattle.tla_lex.specs.declared.gap.Gap.{Gap}
 use Rattle.tla_lex.specs.declared.gap.Gap.TheVariants as gaps
 use Rattle.tla_lex.specs.declared.lexeme.Lexeme.{Lexeme}
@@ -46,6 +49,13 @@ line_of text ts a = ((closing_is_found text a.from).0 a.to).1 a.line
 reads_of : (text : Bytes) (ts : List Token) (a : AreTokens text ts) → Reads Module (body text a.from) a.from a.inner (End a.end)
 reads_of text ts a = subst (λ b. Reads Module b a.from a.inner (End a.end)) (sym (body_some text a.from a.to (line_of text ts a))) a.reads
 
+-- there is one header, and one closing line after it
+pub one_header : (text : Bytes) (m n : ℕ) → IsHeader text m → IsHeader text n → m ≡ n
+one_header text m n h k = same_some (header_end text) m n (((header_is_found text).0 m).1 h) (((header_is_found text).0 n).1 k)
+
+pub one_closing_line : (text : Bytes) (from m n : ℕ) → IsClosingLine text from m → IsClosingLine text from n → m ≡ n
+one_closing_line text from m n h k = same_some (closing text from) m n (((closing_is_found text from).0 m).1 h) (((closing_is_found text from).0 n).1 k)
+
 module _ (text : Bytes) (ts us : List Token) (a : AreTokens text ts) (b : AreTokens text us) where
   same_from : a.from ≡ b.from
   same_from = same_some (header_end text) a.from b.from (header_of text ts a) (header_of text us b)
@@ -62,28 +72,27 @@ module _ (text : Bytes) (ts us : List Token) (a : AreTokens text ts) (b : AreTok
   tokens_once = a.all ∙ ap (λ xs. xs ++ closing_line text a.to ∷ []) same_inner ∙ ap (λ n. b.inner ++ closing_line text n ∷ []) same_to ∙ sym b.all
 
 -- a text that ends at a closing line has no fault before it, and the other way round
-no_stop : (text : Bytes) (from : ℕ) (ts : List Token) (e : LexError) (us : List Token) (a : AreTokens text us)
-    → header_end text ≡ Some from → Reads Module (body text from) from ts (Fault e) → ⊥
-no_stop text from ts e us a h r =
-    let s : from ≡ a.from = same_some (header_end text) from a.from h (header_of text us a) in
-    let q : Reads Module (body text a.from) a.from ts (Fault e) = rw (← s) r in
-    let w = (reads_once Module (body text a.from) a.from ts a.inner (Fault e) (End a.end) q (reads_of text us a)).1 in
+no_stop : (text : Bytes) (from to : ℕ) (ts : List Token) (e : LexError) (us : List Token) (a : AreTokens text us)
+    → IsHeader text from → IsClosingLine text from to → Reads Module (take to text) from ts (Fault e) → ⊥
+no_stop text from to ts e us a h l r =
+    let s : from ≡ a.from = one_header text from a.from h a.header in
+    let k : IsClosingLine text a.from to = subst (λ n. IsClosingLine text n to) s l in
+    let t : to ≡ a.to = one_closing_line text a.from to a.to k a.line in
+    let q : Reads Module (take a.to text) a.from ts (Fault e) = subst (λ n. Reads Module (take a.to text) n ts (Fault e)) s (subst (λ n. Reads Module (take n text) from ts (Fault e)) t r) in
+    let w = (reads_once Module (take a.to text) a.from ts a.inner (Fault e) (End a.end) q a.reads).1 in
     (let z : ⊥ = cc in z)
 
-no_line : (text : Bytes) (from : ℕ) (us : List Token) (a : AreTokens text us) → header_end text ≡ Some from → closing text from ≡ None → ⊥
+no_line : (text : Bytes) (from : ℕ) (us : List Token) (a : AreTokens text us) → IsHeader text from → NoClosingLine text from → ⊥
 no_line text from us a h n =
-    let s : from ≡ a.from = same_some (header_end text) from a.from h (header_of text us a) in
-    let q : closing text a.from ≡ None = ap (λ m. closing text m) (sym s) ∙ n in
-    let w = line_of text us a in
-    (let z : ⊥ = cc in z)
-
-no_module : (text : Bytes) (us : List Token) (a : AreTokens text us) → header_end text ≡ None → ⊥
-no_module text us a n = let w = header_of text us a in (let z : ⊥ = cc in z)
+    let s : from ≡ a.from = one_header text from a.from h a.header in
+    let k : NoClosingLine text a.from = subst (λ m. NoClosingLine text m) s n in
+    k a.to a.line.closes
 
 pub fault_means_none : (text : Bytes) (e : LexError) → IsFirstFault text e → NoTokens text
 fault_means_none text e (not_utf8 n) us a = n.0 a.utf8
-fault_means_none text e (no_header u h p) us a = no_module text us a h
-fault_means_none text e (in_body from ts u h r) us a = no_stop text from ts e us a h r
+fault_means_none text e (no_header u h p) us a = h a.from a.header.ends
+fault_means_none text e (before_closing_line from to ts u h l r) us a = no_stop text from to ts e us a h l r
+fault_means_none text e (in_open_module from ts u h l r) us a = no_line text from us a h l
 fault_means_none text e (no_closing_line from ts end u h l r p) us a = no_line text from us a h l
 
 placed_begun : (text : Bytes) (at : ℕ) (x : Lexeme) (e : LexError) → begun text at x ≡ Stops (Fault e) → IsSome e.place
@@ -111,6 +120,25 @@ fault_placed source text at (t ∷ ts) e r = fault_placed source text t.end ts e
 -- the body where there is no closing line
 pub body_none : (text : Bytes) (from : ℕ) → closing text from ≡ None → body text from ≡ text
 body_none text from h = ap (λ o. take (end_or o (length text)) text) h ∙ take_all (length text) text (omega arith)
+
+-- what the loops find is the first fault
+pub fault_of_no_header : (text : Bytes) (e : LexError) → IsUtf8 text → header_end text ≡ None → e ≡ fault_at text NoHeader 0 → IsFirstFault text e
+fault_of_no_header text e u h p = no_header u ((header_is_found text).1.0 h) p
+
+pub fault_of_body : (text : Bytes) (from : ℕ) (ts : List Token) (e : LexError) → IsUtf8 text → header_end text ≡ Some from → Reads Module (body text from) from ts (Fault e) → IsFirstFault text e
+fault_of_body text from ts e u h r = by (closing text from) refl
+  where
+    header : IsHeader text from
+    header = ((header_is_found text).0 from).0 h
+
+    by : (o : Option ℕ) → closing text from ≡ o → IsFirstFault text e
+    by None n = in_open_module from ts u header ((closing_is_found text from).1.0 n) (subst (λ b. Reads Module b from ts (Fault e)) (body_none text from n) r)
+    by (Some to) l = before_closing_line from to ts u header (((closing_is_found text from).0 to).0 l) (subst (λ b. Reads Module b from ts (Fault e)) (body_some text from to l) r)
+
+pub fault_of_no_line : (text : Bytes) (from : ℕ) (ts : List Token) (end : Place) (e : LexError) → IsUtf8 text → header_end text ≡ Some from → closing text from ≡ None
+    → Reads Module (body text from) from ts (End end) → e ≡ record { code = code.NoClosingLine; place = Some end } → IsFirstFault text e
+fault_of_no_line text from ts end e u h n r p =
+    no_closing_line from ts end u (((header_is_found text).0 from).0 h) ((closing_is_found text from).1.0 n) (subst (λ b. Reads Module b from ts (End end)) (body_none text from n) r) p
 
 pub body_len : (text : Bytes) (to : ℕ) → to ≤ length text → length (take to text) ≡ to
 body_len text to h = let l = length-take to text in omega (arith, l)

@@ -7,7 +7,7 @@ use Rattle.std.proofs.lemmas.Bool.Decides.{Decides-eqb}
 use Rattle.tla_lex.specs.Bytes.{Bytes, first, is_backslash, is_line_feed, is_quote}
 use Rattle.tla_lex.specs.InCode.{code, region_behind}
 use Rattle.tla_lex.specs.Module.{on_turn, region_after}
-use Rattle.tla_lex.specs.Strings.{end_from}
+use Rattle.tla_lex.specs.StringLoops.{end_from}
 use Rattle.tla_lex.specs.declared.closing.Region.{Region}
 use Rattle.tla_lex.specs.declared.closing.Region.TheVariants.{Code, Text, Escape}
 use Rattle.tla_lex.specs.declared.gap.Mode.TheVariants.{Line, Depth, Second}

@@ -6,8 +6,8 @@ use Rattle.std.proofs.lemmas.Bool.Decides.{Decides-eqb}
 use Rattle.std.proofs.lemmas.List.{take_at, take_all}
 use Rattle.tla_lex.specs.Bytes.{Bytes, first, is_line_feed, is_quote, is_backslash}
 use Rattle.tla_lex.specs.Comments.{is_inline}
-use Rattle.tla_lex.specs.Quoted.{IsQuotable, nothing, literal, escaped, is_literal, is_escape, IsString}
-use Rattle.tla_lex.specs.Strings.{string, end_from, unknown_escape, closed, on_end, escape, is_unknown}
+use Rattle.tla_lex.specs.Strings.{IsQuotable, nothing, literal, escaped, is_literal, is_escape, escape, is_unknown, IsString}
+use Rattle.tla_lex.specs.StringLoops.{string, end_from, unknown_escape, closed, on_end}
 use Rattle.tla_lex.specs.declared.lexeme.Lexeme.TheVariants.{Found}
 use Rattle.tla_lex.specs.declared.token.Kind.{Kind}
 use Rattle.tla_lex.specs.declared.token.Kind.TheVariants as kinds
@@ -45,11 +45,11 @@ string_found text kind n h = by (end_from false 1 (drop 1 text)) refl h
         (e ∙ ap Some same, subst (λ i. closed i (unknown_escape false 1 (drop 1 (take i text))) ≡ Found kind n) same g)
 
 -- where a string ends, after a backslash or not
-abbrev EndsAt : Bool → ℕ → Bytes → ℕ → Type 0
+abbrev pub EndsAt : Bool → ℕ → Bytes → ℕ → Type 0
 EndsAt false at bs n = (w rest : Bytes) × (bs ≡ w ++ (34 ∷ rest)) × (n ≡ at + length w + 1) × IsQuotable is_inline w
 EndsAt true at bs n = (b : ℕ) × (w : Bytes) × (rest : Bytes) × (bs ≡ b ∷ (w ++ (34 ∷ rest))) × (n ≡ at + 1 + length w + 1) × IsTrue (is_inline b) × IsQuotable is_inline w
 
-ends_at : (behind : Bool) (at n : ℕ) (bs : Bytes) → end_from behind at bs ≡ Some n → EndsAt behind at bs n
+pub ends_at : (behind : Bool) (at n : ℕ) (bs : Bytes) → end_from behind at bs ≡ Some n → EndsAt behind at bs n
 unfolding end_from
 ends_at behind at n [] h = absurd (let z : ⊥ = cc in z)
 ends_at true at n (b ∷ rest) h = by (λ g. ends_at false (at + 1) n rest g) (is_line_feed b) (is_quote b) (is_backslash b) refl h
@@ -79,7 +79,7 @@ ends_at false at n (b ∷ rest) h = by (λ e g. ends_at e (at + 1) n rest g) (is
         stands : EndsAt false (at + 1) rest n → EndsAt false at (b ∷ rest) n
         stands (w, r, e, size, v) = (b ∷ w, r, ap (λ x. b ∷ x) e, omega (arith, size), literal b w (literal_byte b l q k) v)
 
-literal_ends : (at b : ℕ) (rest : Bytes) → IsTrue (is_literal b) → end_from false at (b ∷ rest) ≡ end_from false (at + 1) rest
+pub literal_ends : (at b : ℕ) (rest : Bytes) → IsTrue (is_literal b) → end_from false at (b ∷ rest) ≡ end_from false (at + 1) rest
 unfolding end_from
 literal_ends at b rest h =
     let n = literal_not b h in
@@ -87,7 +87,7 @@ literal_ends at b rest h =
     ∙ ap (λ c. if c && true then Some (at + 1) else end_from (is_backslash b && true) (at + 1) rest) n.1
     ∙ ap (λ c. end_from (c && true) (at + 1) rest) n.2
 
-escape_ends : (at b : ℕ) (rest : Bytes) → IsTrue (is_inline b) → end_from false at (92 ∷ b ∷ rest) ≡ end_from false (at + 1 + 1) rest
+pub escape_ends : (at b : ℕ) (rest : Bytes) → IsTrue (is_inline b) → end_from false at (92 ∷ b ∷ rest) ≡ end_from false (at + 1 + 1) rest
 unfolding end_from
 escape_ends at b rest h = by (is_line_feed b) (is_quote b) (is_backslash b) h
   where
@@ -102,7 +102,7 @@ quote_ends : (at : ℕ) (rest : Bytes) → end_from false at (34 ∷ rest) ≡ S
 unfolding end_from
 quote_ends at rest = refl
 
-ends_here : (w : Bytes) → IsQuotable is_inline w → (at : ℕ) (rest : Bytes) → end_from false at (w ++ (34 ∷ rest)) ≡ Some (at + length w + 1)
+pub ends_here : (w : Bytes) → IsQuotable is_inline w → (at : ℕ) (rest : Bytes) → end_from false at (w ++ (34 ∷ rest)) ≡ Some (at + length w + 1)
 ends_here w nothing at rest = let size : at + 1 ≡ at + 0 + 1 = omega arith in quote_ends at rest ∙ ap Some size
 ends_here w (literal b v h q) at rest =
     let size : at + 1 + length v + 1 ≡ at + suc (length v) + 1 = omega arith in
@@ -112,11 +112,11 @@ ends_here w (escaped b v h q) at rest =
     escape_ends at b (v ++ (34 ∷ rest)) h ∙ ends_here v q (at + 1 + 1) rest ∙ ap Some size
 
 -- ---- escapes
-literal_passes : (at b : ℕ) (rest : Bytes) → IsTrue (is_literal b) → unknown_escape false at (b ∷ rest) ≡ unknown_escape false (at + 1) rest
+pub literal_passes : (at b : ℕ) (rest : Bytes) → IsTrue (is_literal b) → unknown_escape false at (b ∷ rest) ≡ unknown_escape false (at + 1) rest
 unfolding unknown_escape
 literal_passes at b rest h = ap (λ c. if (c && true) && is_unknown (escape (first rest)) then Some at else unknown_escape (c && true) (at + 1) rest) (literal_not b h).2
 
-escape_known : (at b : ℕ) (rest : Bytes) → is_unknown (escape b) ≡ false → unknown_escape false at (92 ∷ b ∷ rest) ≡ unknown_escape false (at + 1 + 1) rest
+pub escape_known : (at b : ℕ) (rest : Bytes) → is_unknown (escape b) ≡ false → unknown_escape false at (92 ∷ b ∷ rest) ≡ unknown_escape false (at + 1 + 1) rest
 unfolding unknown_escape
 escape_known at b rest h = ap (λ c. if c then Some at else unknown_escape true (at + 1) (b ∷ rest)) h ∙ by (is_backslash b)
   where
@@ -124,7 +124,7 @@ escape_known at b rest h = ap (λ c. if c then Some at else unknown_escape true 
     by true = refl
     by false = refl
 
-escape_unknown : (at b : ℕ) (rest : Bytes) → is_unknown (escape b) ≡ true → unknown_escape false at (92 ∷ b ∷ rest) ≡ Some at
+pub escape_unknown : (at b : ℕ) (rest : Bytes) → is_unknown (escape b) ≡ true → unknown_escape false at (92 ∷ b ∷ rest) ≡ Some at
 unfolding unknown_escape
 escape_unknown at b rest h = ap (λ c. if c then Some at else unknown_escape true (at + 1) (b ∷ rest)) h
 
@@ -132,7 +132,7 @@ quote_known : (at : ℕ) → unknown_escape false at (34 ∷ []) ≡ None
 unfolding unknown_escape
 quote_known at = refl
 
-all_known : (w : Bytes) → IsQuotable is_inline w → (at : ℕ) → unknown_escape false at (w ++ (34 ∷ [])) ≡ None → IsQuotable is_escape w
+pub all_known : (w : Bytes) → IsQuotable is_inline w → (at : ℕ) → unknown_escape false at (w ++ (34 ∷ [])) ≡ None → IsQuotable is_escape w
 all_known w nothing at h = nothing
 all_known w (literal b v l q) at h = literal b v l (all_known v q (at + 1) (sym (literal_passes at b (v ++ (34 ∷ [])) l) ∙ h))
 all_known w (escaped b v l q) at h = elim (cases_Bool (is_unknown (escape b))) [
@@ -140,14 +140,14 @@ all_known w (escaped b v l q) at h = elim (cases_Bool (is_unknown (escape b))) [
   | inr e ↦ escaped b v (ap not e) (all_known v q (at + 1 + 1) (sym (escape_known at b (v ++ (34 ∷ [])) e) ∙ h))
 ]
 
-none_unknown : (w : Bytes) → IsQuotable is_escape w → (at : ℕ) → unknown_escape false at (w ++ (34 ∷ [])) ≡ None
+pub negated : (c : Bool) → IsTrue (not c) → c ≡ false
+negated true e = clash e refl
+negated false e = refl
+
+pub none_unknown : (w : Bytes) → IsQuotable is_escape w → (at : ℕ) → unknown_escape false at (w ++ (34 ∷ [])) ≡ None
 none_unknown w nothing at = quote_known at
 none_unknown w (literal b v l q) at = literal_passes at b (v ++ (34 ∷ [])) l ∙ none_unknown v q (at + 1)
 none_unknown w (escaped b v l q) at = escape_known at b (v ++ (34 ∷ [])) (negated (is_unknown (escape b)) l) ∙ none_unknown v q (at + 1 + 1)
-  where
-    negated : (c : Bool) → IsTrue (not c) → c ≡ false
-    negated true e = clash e refl
-    negated false e = refl
 
 escape_inline : (b : ℕ) → IsTrue (is_escape b) → IsTrue (is_inline b)
 escape_inline b h = elim (cases_Bool (is_line_feed b)) [
@@ -155,7 +155,7 @@ escape_inline b h = elim (cases_Bool (is_line_feed b)) [
   | inr e ↦ ap not e
 ]
 
-inline : (w : Bytes) → IsQuotable is_escape w → IsQuotable is_inline w
+pub inline : (w : Bytes) → IsQuotable is_escape w → IsQuotable is_inline w
 inline w nothing = nothing
 inline w (literal b v l q) = literal b v l (inline v q)
 inline w (escaped b v l q) = escaped b v (escape_inline b l) (inline v q)

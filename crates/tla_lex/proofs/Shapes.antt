@@ -5,7 +5,7 @@ use Rattle.std.specs.List.{list_all, starts_with}
 use Rattle.std.proofs.lemmas.Bool.Decides.{Decides-eqb, nat_tests}
 use Rattle.tla_lex.specs.Bytes.{Bytes, first, is_word, is_letter, is_digit, is_dash, is_quote, is_backslash}
 use Rattle.tla_lex.specs.LongestToken.{IsToken, name, digits, underscore, fairness, quoted, separator, operator, symbol, IsListed, fairness_marks, begins_fairness}
-use Rattle.tla_lex.specs.Strings.{string}
+use Rattle.tla_lex.specs.StringLoops.{string}
 use Rattle.tla_lex.specs.Symbols.{symbols, operators}
 use Rattle.tla_lex.specs.declared.lexeme.Lexeme.TheVariants.{Found}
 use Rattle.tla_lex.specs.declared.lexeme.Source.{Source}

@@ -3,7 +3,7 @@ use Rattle.std.specs.Prelude.{◌≡◌, ◌<◌, ◌+◌, ℕ, Bool, false, ◌
 use Rattle.std.specs.List.{starts_with}
 use Rattle.tla_lex.specs.Bytes.{Bytes, first, is_quote, is_backslash}
 use Rattle.tla_lex.specs.Comments.{opens_line, opens, IsComment}
-use Rattle.tla_lex.specs.Quoted.{IsClosedString, IsOpenString}
+use Rattle.tla_lex.specs.Strings.{IsClosedString, IsOpenString}
 
 -- `/\` and `\/`
 abbrev pub is_junction : ℕ → ℕ → Bool
@@ -14,7 +14,8 @@ abbrev pub begins_whole : Bytes → Bool
 begins_whole [] = false
 begins_whole (b ∷ rest) = opens_line b (first rest) || opens b (first rest) || is_quote b || is_junction b (first rest)
 
--- These bytes, in front of the rest of a text, are whole comments and strings and other bytes. `/\` and `\/` are tokens, so that no comment begins at their second byte.
+-- These bytes, in front of the rest of a text, are whole comments and strings and other bytes. `/\` and `\/` are
+-- tokens, so that no comment begins at their second byte.
 pub data IsCode : Bytes → Bytes → Type 0 where
   nothing : (rest : Bytes) → IsCode [] rest
   comment : (c w rest : Bytes) → IsComment c (w ++ rest) → IsCode w rest → IsCode (c ++ w) rest
@@ -32,7 +33,8 @@ pub record ClosesAt (text : Bytes) (from to : ℕ) : Type 0 where
   pub outside : IsCode code rest
   pub line : IsTrue (starts_with nat_eq rest (codes "===="))
 
--- The closing line of a module whose header ends at byte `from`: the first run of four or more `=` outside comments and strings.
+-- The closing line of a module whose header ends at byte `from`: the first run of four or more `=` outside comments
+-- and strings.
 pub record IsClosingLine (text : Bytes) (from to : ℕ) : Type 0 where
   pub closes : ClosesAt text from to
   pub first : (n : ℕ) → n < to → ClosesAt text from n → ⊥

@@ -11,7 +11,8 @@ abbrev pub decimal : Bytes → ℕ
 decimal [] = 0
 decimal (b ∷ rest) = (b - 48) * 10 ^ length rest + decimal rest
 
--- the kind of digits: in a module their number, at most 9223372036854775807; those of a configuration are read above this crate
+-- the kind of digits: in a module their number, at most 9223372036854775807; those of a configuration are read above
+-- this crate
 abbrev pub IsNumber : Source → Bytes → Kind → Type 0
 IsNumber Module w kind = (decimal w < 2 ^ 63) × (kind ≡ kinds.Number (decimal w))
 IsNumber Configuration w kind = kind ≡ kinds.Digits

@@ -1,4 +1,5 @@
--- The loop that passes over blanks and comments, byte by byte; `Comments` says what these are, and a law that the loop finds them.
+-- The loop that passes over blanks and comments, byte by byte; `Comments` says what these are, and a law that the
+-- loop finds them.
 use Rattle.std.specs.Prelude.{ℕ, zero, suc, ◌+◌, Bool, true, false, nat_lt, if◌then◌else◌, [], ◌∷◌, Option, Some, None}
 use Rattle.tla_lex.specs.Bytes.{Bytes, first, is_blank, is_line_feed}
 use Rattle.tla_lex.specs.Comments.{opens_line, opens, closes}

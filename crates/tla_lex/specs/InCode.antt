@@ -1,4 +1,5 @@
--- The laws of the search for the closing line: it agrees with the tokens on what lies outside comments and strings, and finds the first place there.
+-- The laws of the search for the closing line: it agrees with the tokens on what lies outside comments and strings,
+-- and finds the first place there.
 use Rattle.std.specs.Prelude.{◌≡◌, ℕ, zero, suc, ◌+◌, ◌-◌, ◌<◌, IsTrue, List, [], ◌∷◌, Option, Some, None, drop, nat_eq, codes}
 use Rattle.std.specs.List.{starts_with}
 use Rattle.tla_lex.specs.Bytes.{Bytes, first}
@@ -21,7 +22,8 @@ region_behind region zero text = region
 region_behind region (suc n) [] = region
 region_behind region (suc n) (b ∷ rest) = region_behind (region_after region b (first rest)) n rest
 
--- from byte `at` on, each token begins and ends outside comments and strings, as they are passed over in looking for the closing line
+-- from byte `at` on, each token begins and ends outside comments and strings, as they are passed over in looking for
+-- the closing line
 abbrev pub StayInCode : Bytes → ℕ → List Token → Type 0
 StayInCode text at [] = Unit {0}
 StayInCode text at (t ∷ ts) =

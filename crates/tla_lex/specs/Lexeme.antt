@@ -3,7 +3,7 @@ use Rattle.std.specs.Prelude.{nat_le, nat_lt, if◌then◌else◌, take}
 use Rattle.std.specs.List.{prefix_len}
 use Rattle.tla_lex.specs.Bytes.{Bytes, first, is_word, is_quote, is_dash}
 use Rattle.tla_lex.specs.Words.{word}
-use Rattle.tla_lex.specs.Strings.{string}
+use Rattle.tla_lex.specs.StringLoops.{string}
 use Rattle.tla_lex.specs.Symbols.{symbol}
 use Rattle.tla_lex.specs.declared.lexeme.Lexeme.{Lexeme}
 use Rattle.tla_lex.specs.declared.lexeme.Lexeme.TheVariants.{Found}

@@ -6,7 +6,7 @@ pub mod Words
 pub mod Symbols
 pub mod Longest
 pub mod Strings
-pub mod Quoted
+pub mod StringLoops
 pub mod Decimal
 pub mod Lexeme
 pub mod Reads

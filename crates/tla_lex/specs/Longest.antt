@@ -18,7 +18,8 @@ abbrev pub IsAmong : Bytes → Kind → ℕ → Spellings → Type 0
 IsAmong text kind n [] = ⊥
 IsAmong text kind n (e ∷ es) = (IsTrue (starts_with nat_eq text e.0) × (e.1 ≡ kind) × (length e.0 ≡ n)) ⊎ IsAmong text kind n es
 
--- what is read at the front of a text is one of the symbols there, and no other of them is longer; nothing is read only where there is none
+-- what is read at the front of a text is one of the symbols there, and no other of them is longer; nothing is read
+-- only where there is none
 abbrev pub LongestSymbol : Type 0
 LongestSymbol =
     (text : Bytes) → NoneLonger text (found_len (longest text (Fault Unknown 0) symbols)) symbols

@@ -3,7 +3,7 @@ use Rattle.std.specs.Prelude.{◌≡◌, ◌<◌, ◌≤◌, ◌-◌, ◌⊎◌,
 use Rattle.std.specs.List.{list_all, list_any, starts_with}
 use Rattle.tla_lex.specs.Bytes.{Bytes, first, is_word, is_letter, is_digit, is_dash}
 use Rattle.tla_lex.specs.Decimal.{IsNumber}
-use Rattle.tla_lex.specs.Quoted.{IsString}
+use Rattle.tla_lex.specs.Strings.{IsString}
 use Rattle.tla_lex.specs.Reads.{Reads}
 use Rattle.tla_lex.specs.Symbols.{symbols, operators}
 use Rattle.tla_lex.specs.Words.{Spellings, lookup, name_kind, reserved_words}

@@ -1,4 +1,5 @@
--- Where a module begins and ends (book, chapter 15; that text before and after it is ignored is this project's own choice).
+-- Where a module begins and ends (book, chapter 15; that text before and after it is ignored is this project's own
+-- choice).
 use Rattle.std.specs.Prelude.{ℕ, ◌+◌, Bool, false, not, ◌&&◌, ◌||◌, ◌==◌, nat_le, nat_lt, nat_eq, if◌then◌else◌, [], ◌∷◌, Option, Some, None, take, drop, length, codes}
 use Rattle.std.specs.List.{prefix_len, starts_with}
 use Rattle.tla_lex.specs.Bytes.{Bytes, first, is_dash, is_space_or_tab, is_word, is_quote, is_backslash, is_line_feed}

@@ -7,7 +7,8 @@ use Rattle.tla_lex.specs.Bytes.{Bytes, is_line_feed}
 abbrev pub is_inner : ℕ → Bool
 is_inner b = nat_le 128 b && nat_lt b 192
 
--- the place after a byte: a line feed ends a line, a tab leads to the next column of the form 8n + 1, and columns count characters
+-- the place after a byte: a line feed ends a line, a tab leads to the next column of the form 8n + 1, and columns
+-- count characters
 abbrev pub advance : Place → ℕ → Place
 advance p b =
     if is_line_feed b then record { line = p.line + 1; column = 1 }

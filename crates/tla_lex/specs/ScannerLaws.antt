@@ -1,5 +1,5 @@
 -- The laws that the scanner's loops find what the definitions name.
-use Rattle.std.specs.Prelude.{◌≡◌, ◌↔◌, ℕ, IsTrue, Some, None, take, length}
+use Rattle.std.specs.Prelude.{◌≡◌, ◌↔◌, ℕ, IsTrue, Some, None, length}
 use Rattle.tla_lex.specs.Bytes.{Bytes, first, is_quote}
 use Rattle.tla_lex.specs.Closing.{IsClosingLine, NoClosingLine}
 use Rattle.tla_lex.specs.Comments.{IsLeadingGap, IsOpenComment}
@@ -8,16 +8,16 @@ use Rattle.tla_lex.specs.Fronts.{Comes}
 use Rattle.tla_lex.specs.Gap.{gap}
 use Rattle.tla_lex.specs.Header.{IsHeader, NoHeader}
 use Rattle.tla_lex.specs.Module.{header_end, closing}
-use Rattle.tla_lex.specs.Quoted.{IsString}
 use Rattle.tla_lex.specs.Reads.{front}
-use Rattle.tla_lex.specs.Strings.{string}
+use Rattle.tla_lex.specs.StringLoops.{string, string_text}
+use Rattle.tla_lex.specs.Strings.{BeginsWithString, IsTextOf}
 use Rattle.tla_lex.specs.Words.{number}
 use Rattle.tla_lex.specs.declared.gap.Gap.TheVariants as gaps
+use Rattle.tla_lex.specs.declared.lexeme.Lexeme.{Lexeme}
 use Rattle.tla_lex.specs.declared.lexeme.Lexeme.TheVariants.{Found}
 use Rattle.tla_lex.specs.declared.lexeme.Source.{Source}
 use Rattle.tla_lex.specs.declared.scan.Front.{Front}
 use Rattle.tla_lex.specs.declared.token.Kind.{Kind}
-use Rattle.tla_lex.specs.declared.token.Kind.TheVariants as kinds
 
 -- The loop over blanks and comments ends exactly where they end, and finds exactly the comment that stays open.
 abbrev pub GapIsFound : Type 0
@@ -35,11 +35,13 @@ HeaderIsFound = (text : Bytes) → ((end : ℕ) → (header_end text ≡ Some en
 abbrev pub FrontIsFound : Type 0
 FrontIsFound = (source : Source) (text : Bytes) (at : ℕ) (f : Front) → (front source text at ≡ f) ↔ Comes source text at f
 
--- What is read as a string from a quote on is one, and a string is read as one.
+-- What the loops read from a quote on is exactly what begins there: a string, or its fault.
 abbrev pub StringIsFound : Type 0
-StringIsFound =
-    ((text : Bytes) (kind : Kind) (n : ℕ) → IsTrue (is_quote (first text)) → string text ≡ Found kind n → (kind ≡ kinds.Text) × IsString (take n text))
-    × ((w : Bytes) → IsString w → string w ≡ Found kinds.Text (length w))
+StringIsFound = (text : Bytes) (l : Lexeme) → IsTrue (is_quote (first text)) → (string text ≡ l) ↔ BeginsWithString text l
+
+-- The loop over a string reads exactly its text, of which there is one.
+abbrev pub TextIsRead : Type 0
+TextIsRead = (literal text : Bytes) → (string_text literal ≡ text) ↔ IsTextOf literal text
 
 -- Digits are read as the number that they say.
 abbrev pub NumberIsFound : Type 0

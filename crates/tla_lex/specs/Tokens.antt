@@ -4,11 +4,10 @@ use Rattle.std.specs.List.{prefix_len}
 use Rattle.std.specs.Str.{IsUtf8}
 use Rattle.std.specs.Str.Lossy.{utf8_valid_len}
 use Rattle.tla_lex.specs.Bytes.{Bytes, is_equal_sign}
-use Rattle.tla_lex.specs.Closing.{IsClosingLine}
-use Rattle.tla_lex.specs.Header.{IsHeader}
-use Rattle.tla_lex.specs.Module.{header_end, closing, body}
+use Rattle.tla_lex.specs.Closing.{IsClosingLine, NoClosingLine}
+use Rattle.tla_lex.specs.Header.{IsHeader, NoHeader}
 use Rattle.tla_lex.specs.Reads.{Reads, InOrder, token_at, fault_at}
-use Rattle.tla_lex.specs.declared.error.LexCode.TheVariants.{NotUtf8, NoHeader, NoClosingLine, NoMemory}
+use Rattle.tla_lex.specs.declared.error.LexCode.TheVariants as code
 use Rattle.tla_lex.specs.declared.error.LexError.{LexError}
 use Rattle.tla_lex.specs.declared.lexeme.Source.TheVariants.{Module}
 use Rattle.tla_lex.specs.declared.scan.Stop.TheVariants.{End, Fault}
@@ -38,16 +37,19 @@ NoTokens text = (ts : List Token) → AreTokens text ts → ⊥
 
 -- UTF-8 fails first at this fault
 abbrev pub IsNotUtf8 : Bytes → LexError → Type 0
-IsNotUtf8 text e = ¬ (IsUtf8 text) × (e ≡ fault_at text NotUtf8 (utf8_valid_len text))
+IsNotUtf8 text e = ¬ (IsUtf8 text) × (e ≡ fault_at text code.NotUtf8 (utf8_valid_len text))
 
--- The first fault of a module: UTF-8 is asked for first, over the whole text, then the header, then the tokens up to the closing line, and the closing line last.
+-- The first fault of a module: UTF-8 is asked for first, over the whole text, then the header, then the tokens up to
+-- the closing line, and the closing line last.
 pub data IsFirstFault (text : Bytes) (e : LexError) : Type 0 where
   not_utf8 : IsNotUtf8 text e → IsFirstFault text e
-  no_header : IsUtf8 text → header_end text ≡ None → e ≡ fault_at text NoHeader 0 → IsFirstFault text e
-  in_body : (from : ℕ) (ts : List Token) → IsUtf8 text → header_end text ≡ Some from → Reads Module (body text from) from ts (Fault e) → IsFirstFault text e
-  no_closing_line : (from : ℕ) (ts : List Token) (end : Place) → IsUtf8 text → header_end text ≡ Some from → closing text from ≡ None
-      → Reads Module text from ts (End end) → e ≡ record { code = NoClosingLine; place = Some end } → IsFirstFault text e
+  no_header : IsUtf8 text → NoHeader text → e ≡ fault_at text code.NoHeader 0 → IsFirstFault text e
+  before_closing_line : (from to : ℕ) (ts : List Token) → IsUtf8 text → IsHeader text from → IsClosingLine text from to
+      → Reads Module (take to text) from ts (Fault e) → IsFirstFault text e
+  in_open_module : (from : ℕ) (ts : List Token) → IsUtf8 text → IsHeader text from → NoClosingLine text from → Reads Module text from ts (Fault e) → IsFirstFault text e
+  no_closing_line : (from : ℕ) (ts : List Token) (end : Place) → IsUtf8 text → IsHeader text from → NoClosingLine text from
+      → Reads Module text from ts (End end) → e ≡ record { code = code.NoClosingLine; place = Some end } → IsFirstFault text e
 
 -- the error that memory ran out, which has no place
 abbrev pub no_memory : LexError
-no_memory = record { code = NoMemory; place = None }
+no_memory = record { code = code.NoMemory; place = None }

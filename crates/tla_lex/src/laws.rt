@@ -3,7 +3,7 @@
 ghost use Rattle.tla_lex.specs.InCode.{ClosingIsFirst, TokensInCode};
 ghost use Rattle.tla_lex.specs.Longest.{LongestSymbol};
 ghost use Rattle.tla_lex.specs.LongestToken.{LongestTokens};
-ghost use Rattle.tla_lex.specs.ScannerLaws.{ClosingIsFound, FrontIsFound, GapIsFound, HeaderIsFound, NumberIsFound, StringIsFound};
+ghost use Rattle.tla_lex.specs.ScannerLaws.{ClosingIsFound, FrontIsFound, GapIsFound, HeaderIsFound, NumberIsFound, StringIsFound, TextIsRead};
 
 /// A symbol is the longest at its place.
 pub fn longest_symbol()
@@ -45,9 +45,14 @@ pub fn front_is_found()
     ensures { FrontIsFound }
 {}
 
-/// What is read as a string is one, and a string is read.
+/// What is read from a quote on is the string or the fault that begins there.
 pub fn string_is_found()
     ensures { StringIsFound }
+{}
+
+/// A string's text is read, and it has no other.
+pub fn text_is_read()
+    ensures { TextIsRead }
 {}
 
 /// Digits are read as the number that they say.

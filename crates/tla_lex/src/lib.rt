@@ -1,6 +1,7 @@
 //! The tokens of a module and of a configuration.
 //!
-//! `tokens` gives the one list of tokens that a module's text has, or the first fault of the text. `configuration_tokens` reads a configuration by the same definitions of blanks, comments and tokens.
+//! `tokens` gives the one list of tokens that a module's text has, or the first fault of the text.
+//! `configuration_tokens` reads a configuration by the same definitions of blanks, comments and tokens.
 #![tactic(auto)]
 
 mod bytes;

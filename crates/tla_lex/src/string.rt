@@ -1,7 +1,8 @@
 //! Strings.
 
 ghost use Rattle.std.specs.Prelude.{◌≡◌, ◌≤◌, ◌<◌, ◌+◌, length, drop, false, IfSome, IfOk};
-ghost use Rattle.tla_lex.specs.Strings as spec;
+ghost use Rattle.tla_lex.specs.StringLoops as spec;
+ghost use Rattle.tla_lex.specs.Strings as strings;
 ghost use Rattle.tla_lex.specs.Private.LexemeSize.{Fits};
 
 use crate::bytes::first;
@@ -12,7 +13,7 @@ use std::alloc::{AllocError, Global};
 
 /// The byte that a byte after a backslash means.
 fn escape(b: u8) -> Option<u8>
-    ensures { result ≡ spec.escape b }
+    ensures { result ≡ strings.escape b }
 {
     match b {
         b'"' | b'\\' => Some(b),
@@ -25,7 +26,7 @@ fn escape(b: u8) -> Option<u8>
 }
 
 /// Where a string ends, past its closing quote. `None` where its line ends first.
-#[tactic(auto, unfolding(crate::specs::Strings::end_from))]
+#[tactic(auto, unfolding(crate::specs::StringLoops::end_from))]
 fn end_of_string(text: &[u8]) -> Option<usize>
     requires { 0 < length text.now }
     ensures value { result ≡ spec.end_from false 1 (drop 1 text.now) }
@@ -50,7 +51,7 @@ fn end_of_string(text: &[u8]) -> Option<usize>
 }
 
 /// The first backslash of a string that begins no escape.
-#[tactic(auto, unfolding(crate::specs::Strings::unknown_escape))]
+#[tactic(auto, unfolding(crate::specs::StringLoops::unknown_escape))]
 fn unknown_escape(string: &[u8]) -> Option<usize>
     requires { 0 < length string.now }
     ensures value { result ≡ spec.unknown_escape false 1 (drop 1 string.now) }
@@ -71,7 +72,7 @@ fn unknown_escape(string: &[u8]) -> Option<usize>
 }
 
 /// The lexeme at the front of a text that begins with a quote.
-#[tactic(auto, unfolding(crate::specs::Strings::string))]
+#[tactic(auto, unfolding(crate::specs::StringLoops::string))]
 pub fn string(text: &[u8]) -> Lexeme
     requires { 0 < length text.now }
     ensures value { result ≡ spec.string text.now }
@@ -87,10 +88,10 @@ pub fn string(text: &[u8]) -> Lexeme
 }
 
 /// The text of a string, which has its quotes, with its escapes replaced.
-#[tactic(auto, unfolding(crate::specs::Strings::unescaped))]
+#[tactic(auto, unfolding(crate::specs::StringLoops::unescaped))]
 pub fn string_text(alloc: Global, literal: &[u8]) -> Result<Vec<u8>, AllocError>
     requires { 0 < length literal.now }
-    ensures { IfOk result (λ v. v.items ≡ spec.string_text literal.now) }
+    ensures { IfOk result (λ v. strings.IsTextOf literal.now v.items) }
 {
     let mut text = Vec::new(alloc);
     let mut escaped = false;

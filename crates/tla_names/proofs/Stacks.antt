@@ -5,8 +5,8 @@ use Rattle.tla_tree.specs.declared.tree.Expr.{Expr}
 use Rattle.tla_tree.specs.Tree.{trees}
 use Rattle.tla_tree.specs.View.{view}
 use Rattle.tla_names.specs.Maybe.{or_else}
-use Rattle.tla_names.specs.Known.{Misuse, count}
-use Rattle.tla_names.specs.Scope.{Scope}
+use Rattle.tla_names.specs.Known.{Misuse}
+use Rattle.tla_names.specs.Scope.{Scope, count}
 
 -- what was pushed since is cut off
 pub cut_back : (σ τ : Scope) → take (length σ) (σ ++ τ) ≡ σ

@@ -1,5 +1,6 @@
 -- Constants of a module, and those that have no value (book, chapter 14).
-use Rattle.std.specs.Prelude.{List, [], ◌∷◌, ◌++◌, Option, Some, None, map, if◌then◌else◌}
+use Rattle.std.specs.Prelude.{List, [], ◌∷◌, ◌++◌, Option, Some, None, map, if◌then◌else◌, All, Contains}
+use Rattle.std.specs.List.{flat_map}
 use Rattle.tla_tree.specs.declared.word.Written.{Written}
 use Rattle.tla_tree.specs.Units.{UnitTree, Declared, Constants}
 use Rattle.tla_config.specs.Names.{Name, is_among}
@@ -14,6 +15,14 @@ constants ds = map (λ (d : Declared). (d.0.word, d.1)) ds
 abbrev pub misused_constants : Scope → List Declared → Option Misuse
 misused_constants σ [] = None
 misused_constants σ (d ∷ ds) = or_else (new_name σ d.0) (misused_constants (σ ++ (d.0.word, d.1) ∷ []) ds)
+
+abbrev pub constants_in : UnitTree → List Declared
+constants_in (Constants at ds) = ds
+constants_in _ = []
+
+-- each constant of these units is among the names that have an item
+abbrev pub AreAssigned : List Name → List UnitTree → Type 0
+AreAssigned xs us = All (λ (d : Declared). Contains xs d.0.word) (flat_map constants_in us)
 
 -- the first of these that has no item
 abbrev pub first_unvalued : List Name → List Declared → Option Written

@@ -1,5 +1,5 @@
--- The names of a module: what brings them in, and what may use them (book, chapter 17).
-use Rattle.std.specs.Prelude.{ℕ, ◌+◌, nat_eq, Bool, true, false, ◌||◌, List, [], ◌∷◌, ◌++◌, Option, Some, None, is_some, if◌then◌else◌}
+-- The first misuse of a name in an expression or a definition (this project's own choice: the order).
+use Rattle.std.specs.Prelude.{ℕ, nat_eq, Bool, true, false, ◌||◌, List, [], ◌∷◌, ◌++◌, Option, Some, None, is_some, if◌then◌else◌}
 use Rattle.tla_lex.specs.declared.token.Place.{Place}
 use Rattle.tla_tree.specs.declared.word.Written.{Written}
 use Rattle.tla_tree.specs.Tree.{Tree, Trees, none, more, Binders, unbound, bound, Arms, no_arms, arm, Other, no_other, other, Definition, DefinesOperator, DefinesFunction, Definitions, undefined, defined, Fields, no_fields, field, Key, AtIndex, AtField, Keys, no_keys, key, Updates, no_updates, update, names_of}
@@ -7,9 +7,10 @@ use Rattle.tla_tree.specs.Tree as t
 use Rattle.tla_config.specs.Names.{Name, words, is_among}
 use Rattle.tla_names.specs.Maybe.{or_else}
 use Rattle.tla_names.specs.Operators.{infix_known, prefix_known, prefix_word}
-use Rattle.tla_names.specs.Scope.{Scope, arity, plain, signature, signatures, bound_names}
+use Rattle.tla_names.specs.Scope.{Scope, arity, plain, signature, signatures, bound_names, count}
 
--- A name that is refused: brought in where it is in scope, not known, or with another number of arguments than it takes.
+-- A name that is refused: brought in where it is in scope, not known, or used with another number of arguments than it
+-- takes.
 pub data Misuse : Type 0 where
   Twice : Written → Misuse
   Unknown : Written → Misuse
@@ -39,11 +40,8 @@ abbrev pub if_not : Bool → Place → Name → Option Misuse
 if_not true at x = None
 if_not false at x = Some (Unknown (record { place = at; word = x }))
 
-abbrev pub count : Trees → ℕ
-count none = 0
-count (more e es) = count es + 1
-
--- the first misuse in an expression, in the order of the text, where these modules are extended and these names in scope
+-- the first misuse in an expression, in the order of the text, where these modules are extended and these names are in
+-- scope
 abbrev mutual
   pub misused : List Name → Scope → Tree → Option Misuse
   misused ms σ (t.Name w) = used σ w 0

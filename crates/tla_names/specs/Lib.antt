@@ -1,10 +1,13 @@
 pub mod Maybe
 pub mod Operators
 pub mod Scope
+pub mod WellScoped
 pub mod Known
 pub mod Constants
+pub mod WellScopedModule
 pub mod Misuses
 pub mod Named
+pub mod Laws
 pub mod Refusal
 pub mod Mentions
 pub mod Private

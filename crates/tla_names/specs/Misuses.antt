@@ -1,4 +1,4 @@
--- The first misuse of a name in the units of a module (book, chapter 17).
+-- The first misuse of a name in the units of a module (this project's own choice: the order), and the variables.
 use Rattle.std.specs.Prelude.{List, [], ◌∷◌, ◌++◌, Option, Some, None}
 use Rattle.std.specs.List.{flat_map}
 use Rattle.tla_tree.specs.Units.{UnitTree, Separator, Extends, Variables, Operator, Defines, Local, Constants, Assume, Theorem}
@@ -31,6 +31,7 @@ misuse_from ms σ (Constants at ds ∷ us) = or_else (misused_constants σ ds) (
 -- a theorem says nothing of the model
 misuse_from ms σ (Theorem at w e ∷ us) = misuse_from ms σ us
 
--- The first name of a module, in the order of the text, that is brought in twice, not known, or used with another number of arguments than it takes.
+-- The first name of a module, in the order of the text, that is brought in twice, not known, or used with another
+-- number of arguments than it takes.
 abbrev pub misuse : List UnitTree → Option Misuse
 misuse us = misuse_from [] [] us

@@ -1,8 +1,9 @@
--- The names in scope, each with its number of parameters, and what the standard modules bring in (book, chapters 17 and 18).
-use Rattle.std.specs.Prelude.{ℕ, List, [], ◌∷◌, ◌++◌, Option, Some, None, if◌then◌else◌, map, length, codes}
+-- The names in scope, each with its number of parameters, and those that the standard modules bring in (book, chapters
+-- 17 and 18).
+use Rattle.std.specs.Prelude.{ℕ, ◌+◌, List, [], ◌∷◌, ◌++◌, Option, Some, None, if◌then◌else◌, map, length, codes}
 use Rattle.std.specs.List.{flat_map}
 use Rattle.std.specs.Str.{bytes_eq}
-use Rattle.tla_tree.specs.Tree.{Definition, Definitions, DefinesOperator, DefinesFunction, undefined, defined, Binders, unbound, bound, names_of}
+use Rattle.tla_tree.specs.Tree.{Trees, none, more, Definition, Definitions, DefinesOperator, DefinesFunction, undefined, defined, Binders, unbound, bound, Fields, no_fields, field, names_of}
 use Rattle.tla_config.specs.Names.{Name, words}
 use Rattle.tla_names.specs.Maybe.{or_else}
 
@@ -48,3 +49,13 @@ signatures (defined d ds) = signature d ∷ signatures ds
 abbrev pub bound_names : Binders → List Name
 bound_names unbound = []
 bound_names (bound w s bs) = words (names_of w) ++ bound_names bs
+
+-- the names of fields
+abbrev pub field_names : Fields → List Name
+field_names no_fields = []
+field_names (field w e fs) = w.word ∷ field_names fs
+
+-- how many arguments these are
+abbrev pub count : Trees → ℕ
+count none = 0
+count (more e es) = count es + 1

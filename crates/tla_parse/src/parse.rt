@@ -74,7 +74,8 @@ fn error_of(alloc: Global, text: &[u8], tokens: &[Token], refusal: Refusal) -> P
     }
 }
 
-/// The tree of a module, from its tokens, which end with the closing line. Only their kinds, columns and slices of the text count.
+/// The tree of a module, from its tokens, which end with the closing line. Only their kinds, columns and slices of
+/// the text count.
 pub fn parse_module(alloc: Global, text: &[u8], tokens: &[Token]) -> Result<Module, ParseError>
     // The units spell the tokens, and their expressions are no deeper than the limit.
     ensures found { IfOk result (λ m.

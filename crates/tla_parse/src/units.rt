@@ -109,7 +109,8 @@ fn extended(
     Err(refused(tokens, 0, at))
 }
 
-/// How many underscores there are with the first, where each of the others has a comma before it, and the number of the token after them.
+/// How many underscores there are with the first, where each of the others has a comma before it, and the number of
+/// the token after them.
 #[tactic(auto, using(crate::proofs::UnitsSteps::blanks_more, crate::proofs::UnitsSteps::blanks_last, crate::proofs::UnitsSteps::blanks_full))]
 fn blanks(tokens: &[Token], from: usize) -> ParsedCount
     requires { from ≤ length tokens.now }

@@ -1,4 +1,5 @@
--- Where a value is found to be beyond the limits while it is read, before its end is known. Private contracts alone cite this.
+-- Where a value is found to be beyond the limits while it is read, before its end is known. Private contracts alone
+-- cite this.
 use Rattle.std.specs.Prelude.{◌≡◌, ℕ, ◌+◌, List, [], ◌∷◌}
 use Rattle.tla_lex.specs.Bytes.{Bytes}
 use Rattle.tla_lex.specs.declared.token.Kind.TheVariants as k

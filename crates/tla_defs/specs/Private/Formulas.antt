@@ -13,7 +13,8 @@ use Rattle.tla_defs.specs.Model.{AreStatePredicates}
 abbrev pub mentions : List (Bor Written) → List Written
 mentions ws = map (λ (w : Bor Written). w.now) ws
 
--- Whatever are the state predicates of the names that are left, those that are found and these are the state predicates of all names.
+-- Whatever are the state predicates of the names that are left, those that are found and these are the state
+-- predicates of all names.
 abbrev pub Follow : Scope → List Written → List Written → List (Name × Expr) → Type 0
 Follow σ left all found = (ps : List (Name × Expr)) → AreStatePredicates σ left ps → AreStatePredicates σ all (found ++ ps)
 

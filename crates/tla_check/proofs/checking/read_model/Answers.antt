@@ -5,23 +5,23 @@ use Rattle.tla_tree.specs.UnitsView.{unit_view}
 use Rattle.tla_model.specs.Models.{model_of}
 use Rattle.tla_check.proofs.Named.{none-by-module, none-by-model, named-only}
 use Rattle.tla_check.proofs.Stopped.{stopped-tokens, stopped-module, stopped-configuration, stopped-model}
-use Rattle.tla_check.proofs.Told.{lex-told, parse-told, defs-told}
+use Rattle.tla_check.proofs.Reported.{lex-reported, parse-reported, defs-reported}
 use Rattle.tla_check.proofs.checking.read_model.Goals as goal
 
 pub stopped_by_tokens-requires : goal.stopped_by_tokens-requires
-stopped_by_tokens-requires c = lex-told c.in-Err.error.code c.in-Err.error.place c.in-Err.ensures.placed
+stopped_by_tokens-requires c = lex-reported c.in-Err.error.code c.in-Err.error.place c.in-Err.ensures.placed
 
 pub stopped_by_module-requires : goal.stopped_by_module-requires
 stopped_by_module-requires c =
-    parse-told c.in-Err-parse_module.error.code c.in-Err-parse_module.error.place c.in-Err-parse_module.error.name c.in-Err-parse_module.ensures.located
+    parse-reported c.in-Err-parse_module.error.code c.in-Err-parse_module.error.place c.in-Err-parse_module.error.name c.in-Err-parse_module.ensures.located
 
 pub stopped_by_definitions-requires : goal.stopped_by_definitions-requires
 stopped_by_definitions-requires c =
-    defs-told c.in-Err-parse_config.error.code c.in-Err-parse_config.error.place c.in-Err-parse_config.error.name c.in-Err-parse_config.ensures.located
+    defs-reported c.in-Err-parse_config.error.code c.in-Err-parse_config.error.place c.in-Err-parse_config.error.name c.in-Err-parse_config.ensures.located
 
 pub stopped_by_definitions-requires-in-Err-build : goal.stopped_by_definitions-requires-in-Err-build
 stopped_by_definitions-requires-in-Err-build c =
-    defs-told c.in-Err-build.error.code c.in-Err-build.error.place c.in-Err-build.error.name c.in-Err-build.ensures.located
+    defs-reported c.in-Err-build.error.code c.in-Err-build.error.place c.in-Err-build.error.name c.in-Err-build.ensures.located
 
 pub returns-in-Err-clause-stopped : goal.returns-in-Err-clause-stopped
 returns-in-Err-clause-stopped c =
@@ -32,9 +32,9 @@ returns-in-Err-parse_module-clause-stopped c =
     stopped-module c.args.module.now c.args.config.now c.deref.result.now c.in-Err-parse_module.error c.stopped_by_module.result
     (subst (λ ts. AreTokens c.args.module.now ts) (sym c.deref.ensures.value) c.in-Ok.ensures.found)
     c.in-Err-parse_module.ensures.justified
-    (λ told. none-by-module c.args.module.now c.args.config.now c.deref.result.now
+    (λ refusal_code. none-by-module c.args.module.now c.args.config.now c.deref.result.now
     (subst (λ ts. (us : List Token) → AreTokens c.args.module.now us → us ≡ ts) (sym c.deref.ensures.value) c.in-Ok.ensures.only)
-    c.in-Err-parse_module.error.code c.in-Err-parse_module.error.place c.in-Err-parse_module.error.name told c.in-Err-parse_module.ensures.justified)
+    c.in-Err-parse_module.error.code c.in-Err-parse_module.error.place c.in-Err-parse_module.error.name refusal_code c.in-Err-parse_module.ensures.justified)
     c.stopped_by_module.ensures
 
 pub returns-in-Err-parse_config-clause-stopped : goal.returns-in-Err-parse_config-clause-stopped

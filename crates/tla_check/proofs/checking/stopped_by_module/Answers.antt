@@ -1,14 +1,14 @@
 use Rattle.std.proofs.Common.{◌∙◌, sym, ap, is_some}
 use Rattle.tla_check.specs.CarriesOver.{parse_code}
-use Rattle.tla_check.proofs.Told.{told-place, told-name}
+use Rattle.tla_check.proofs.Reported.{reported-place, reported-name}
 use Rattle.tla_check.proofs.checking.stopped_by_module.Goals as goal
 
 pub refused-requires-clause-place : goal.refused-requires-clause-place
-refused-requires-clause-place c = told-place (parse_code c.args.error.code) c.args.error.place c.args.error.name c.in-Some.code c.requires (sym c.parse_code.ensures ∙ c.in-Some.is)
+refused-requires-clause-place c = reported-place (parse_code c.args.error.code) c.args.error.place c.args.error.name c.in-Some.code c.requires (sym c.parse_code.ensures ∙ c.in-Some.is)
 
 pub refused-requires-clause-name : goal.refused-requires-clause-name
 refused-requires-clause-name c =
-    ap is_some c.name_of_word.ensures ∙ told-name (parse_code c.args.error.code) c.args.error.place c.args.error.name c.in-Some.code c.requires (sym c.parse_code.ensures ∙ c.in-Some.is)
+    ap is_some c.name_of_word.ensures ∙ reported-name (parse_code c.args.error.code) c.args.error.place c.args.error.name c.in-Some.code c.requires (sym c.parse_code.ensures ∙ c.in-Some.is)
 
 pub returns-in-Some : goal.returns-in-Some
 returns-in-Some c = rw (sym c.parse_code.ensures ∙ c.in-Some.is, ← c.name_of_word.ensures) c.refused.ensures

@@ -5,7 +5,7 @@ use Rattle.tla_config.specs.Statements.{items_of}
 use Rattle.tla_defs.specs.Private.Mentions.{behaviour_of}
 use Rattle.tla_defs.proofs.Behaviours.{behaviour_only}
 use Rattle.tla_formulas.proofs.Found.{if_err}
-use Rattle.tla_defs.proofs.Nones.{no_behaviour, no_items, no_names, no_cycle, name_refusal, cycle_refusal, last_refusal, last_same}
+use Rattle.tla_defs.proofs.Nones.{no_behaviour, no_module, no_items, no_names, no_cycle, name_refusal, cycle_refusal, last_refusal, last_same}
 use Rattle.tla_defs.proofs.builder.model_or_refusal.Goals as goal
 
 pub model-requires-clause-only : goal.model-requires-clause-only
@@ -14,6 +14,11 @@ model-requires-clause-only c =
 
 pub returns-in-Err-clause-none : goal.returns-in-Err-clause-none
 returns-in-Err-clause-none c = λ h. no_behaviour (map unit_view c.args.units.now) c.args.config.now c.in-Err.place c.in-Err.ensures
+
+pub returns-in_err-variables-clause-none : goal.returns-in_err-variables-clause-none
+returns-in_err-variables-clause-none c =
+    let e = err_from_is_err_and c.from_residual.result c.from_residual.ensures.1 in
+    rw (e.1, e.2) (λ h. no_module (map unit_view c.args.units.now) c.args.config.now.statements _ (c.in_err-variables.ensures.err h))
 
 pub returns-in_err-valued-clause-none : goal.returns-in_err-valued-clause-none
 returns-in_err-valued-clause-none c =

@@ -3,13 +3,14 @@ use Rattle.tla_expand.specs.Meanings.{Scope}
 use Rattle.tla_expand.specs.Names.{scope_of}
 use Rattle.tla_tree.specs.UnitsView.{unit_view}
 use Rattle.tla_defs.specs.Global as global
+use Rattle.tla_defs.specs.Private.Passes as passes
 use Rattle.tla_defs.proofs.Passes.{AreSettled}
 use Rattle.tla_names.specs.Mentions.{item_of}
 use Rattle.tla_defs.proofs.global.raised.Given as goal
 
 abbrev pub invariant-loop-left : goal.invariant-loop-left
 invariant-loop-left l = record {
-  same : global.raised (map unit_view l.units) l.given l.given (scope_of l.initial.all.value) ≡ global.raised (map unit_view l.units) l.given (map item_of l.left) (scope_of l.all.value);
+  same : passes.raised (map unit_view l.units) l.given l.given (scope_of l.initial.all.value) ≡ passes.raised (map unit_view l.units) l.given (map item_of l.left) (scope_of l.all.value);
   settled : (β : Scope) × (scope_of l.all.value ≡ global.meant (map unit_view l.units) l.given β) × AreSettled l.waiting l.given β (scope_of l.all.value);
 }
 

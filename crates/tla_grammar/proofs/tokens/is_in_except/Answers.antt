@@ -6,7 +6,7 @@ use Rattle.tla_grammar.proofs.Updates.{IsWithin, within_any, within_none, within
 use Rattle.tla_grammar.proofs.tokens.is_in_except.Goals as goal
 
 pub loop-turn-init : goal.loop-turn-init
-loop-turn-init c = record { same = within_any c.args.tokens.now c.args.at; left = omega arith; few = omega arith }
+loop-turn-init c = record { same = within_any c.args.tokens.now c.args.at c.requires; left = omega arith; few = omega arith }
 
 pub returns-then-is_except_itself : goal.returns-then-is_except_itself
 returns-then-is_except_itself c =

@@ -1,15 +1,16 @@
-use Rattle.std.proofs.Common.{◌≡◌, None, inl, sym, ◌∙◌, length, subst}
-use Rattle.tla_lex.specs.Module.{closing, body}
-use Rattle.tla_lex.specs.Reads.{Reads, InOrder}
-use Rattle.tla_lex.specs.Tokens.{AreTokens, no_header, in_body, no_closing_line}
+use Rattle.std.proofs.Common.{inl, sym, ◌∙◌, length}
+use Rattle.tla_lex.specs.Module.{body}
+use Rattle.tla_lex.specs.Reads.{InOrder}
+use Rattle.tla_lex.specs.Tokens.{AreTokens, IsFirstFault}
 use Rattle.tla_lex.specs.declared.error.LexCode.TheVariants.{NoHeader}
 use Rattle.tla_lex.specs.declared.lexeme.Source.TheVariants.{Module}
 use Rattle.tla_lex.specs.declared.scan.Stop.TheVariants.{End, Fault}
-use Rattle.tla_lex.proofs.Module.{fault_means_none, fault_placed, tokens_once, body_none, place_of_end, reads_of_body, same_body, found_tokens, first_fault}
+use Rattle.tla_lex.proofs.Module.{fault_means_none, fault_placed, fault_of_no_header, fault_of_body, fault_of_no_line, tokens_once, place_of_end, reads_of_body, same_body, found_tokens, first_fault}
 use Rattle.tla_lex.proofs.lexer.tokens.Goals as goal
+use Rattle.tla_lex.proofs.lexer.tokens.Goals.{After-drop-tokens}
 
 pub returns-in_default-clause-fault : goal.returns-in_default-clause-fault
-returns-in_default-clause-fault c = inl (no_header c.in_ok-check_utf8.ensures.ok (sym c.header_end.ensures.value ∙ c.in_default.is) (c.at.ensures ∙ first_fault c.args.text.now NoHeader))
+returns-in_default-clause-fault c = inl (fault_of_no_header c.args.text.now c.at.result c.in_ok-check_utf8.ensures.ok (sym c.header_end.ensures.value ∙ c.in_default.is) (c.at.ensures ∙ first_fault c.args.text.now NoHeader))
 
 pub closing_line-requires-clause-place : goal.closing_line-requires-clause-place
 closing_line-requires-clause-place c =
@@ -17,18 +18,17 @@ closing_line-requires-clause-place c =
     place_of_end c.args.text.now c.body_before.result.now c.in-Some.from c.in-End-Some.to c.in-End-Some.place _ b (sym c.closing-line.ensures.value ∙ c.in-End-Some.is-1)
     (rw c.in-End-Some.is-1 at c.closing-line.ensures.within) c.in-End-Some.is-0 c.in_ok-tokens.ensures.end
 
-pub returns-in-Fault-default-clause-fault : goal.returns-in-Fault-default-clause-fault
-returns-in-Fault-default-clause-fault c =
+fault_in_body : (c : After-drop-tokens) → IsFirstFault c.args.text.now c.in-Fault-default.error
+fault_in_body c =
     let r = reads_of_body c.args.text.now c.body_before.result.now c.in-Some.from c.closing-line.result c.in_ok-tokens.field-0.tokens.items _ (Fault c.in-Fault-default.error)
     c.closing-line.ensures.value c.body_before.ensures c.in-Fault-default.is-0 c.in_ok-tokens.ensures.reads in
-    inl (in_body c.in-Some.from c.in_ok-tokens.field-0.tokens.items c.in_ok-check_utf8.ensures.ok (sym c.in-Some.ensures.value) r)
+    fault_of_body c.args.text.now c.in-Some.from c.in_ok-tokens.field-0.tokens.items c.in-Fault-default.error c.in_ok-check_utf8.ensures.ok (sym c.in-Some.ensures.value) r
+
+pub returns-in-Fault-default-clause-fault : goal.returns-in-Fault-default-clause-fault
+returns-in-Fault-default-clause-fault c = inl (fault_in_body c)
 
 pub returns-in-Fault-default-clause-none : goal.returns-in-Fault-default-clause-none
-returns-in-Fault-default-clause-none c _ =
-    let r = reads_of_body c.args.text.now c.body_before.result.now c.in-Some.from c.closing-line.result c.in_ok-tokens.field-0.tokens.items _ (Fault c.in-Fault-default.error)
-    c.closing-line.ensures.value c.body_before.ensures c.in-Fault-default.is-0 c.in_ok-tokens.ensures.reads in
-    fault_means_none c.args.text.now c.in-Fault-default.error
-    (in_body c.in-Some.from c.in_ok-tokens.field-0.tokens.items c.in_ok-check_utf8.ensures.ok (sym c.in-Some.ensures.value) r)
+returns-in-Fault-default-clause-none c _ = fault_means_none c.args.text.now c.in-Fault-default.error (fault_in_body c)
 
 pub returns-in-Fault-default-clause-placed : goal.returns-in-Fault-default-clause-placed
 returns-in-Fault-default-clause-placed c _ =
@@ -40,9 +40,8 @@ pub returns-in-End-None-clause-fault : goal.returns-in-End-None-clause-fault
 returns-in-End-None-clause-fault c =
     let r = reads_of_body c.args.text.now c.body_before.result.now c.in-Some.from c.closing-line.result c.in_ok-tokens.field-0.tokens.items _ (End c.in-End-None.place)
     c.closing-line.ensures.value c.body_before.ensures c.in-End-None.is-0 c.in_ok-tokens.ensures.reads in
-    let none : closing c.args.text.now c.in-Some.from ≡ None = sym c.closing-line.ensures.value ∙ c.in-End-None.is-1 in
-    inl (no_closing_line c.in-Some.from c.in_ok-tokens.field-0.tokens.items c.in-End-None.place c.in_ok-check_utf8.ensures.ok (sym c.in-Some.ensures.value) none
-    (subst (λ x. Reads Module x c.in-Some.from c.in_ok-tokens.field-0.tokens.items (End c.in-End-None.place)) (body_none c.args.text.now c.in-Some.from none) r) c.at-in-End-None.ensures)
+    inl (fault_of_no_line c.args.text.now c.in-Some.from c.in_ok-tokens.field-0.tokens.items c.in-End-None.place c.at-in-End-None.result c.in_ok-check_utf8.ensures.ok
+    (sym c.in-Some.ensures.value) (sym c.closing-line.ensures.value ∙ c.in-End-None.is-1) r c.at-in-End-None.ensures)
 
 found : (c : goal.In_ok-push-in-End-Some) → AreTokens c.args.text.now c.push.new.self.items
 found c =
@@ -65,13 +64,12 @@ returns-in_ok-push-in-End-Some-clause-only c ts a = tokens_once c.args.text.now 
 
 pub returns-in_default-clause-none : goal.returns-in_default-clause-none
 returns-in_default-clause-none c _ =
-    fault_means_none c.args.text.now c.at.result (no_header c.in_ok-check_utf8.ensures.ok (sym c.header_end.ensures.value ∙ c.in_default.is) (c.at.ensures ∙ first_fault c.args.text.now NoHeader))
+    fault_means_none c.args.text.now c.at.result (fault_of_no_header c.args.text.now c.at.result c.in_ok-check_utf8.ensures.ok (sym c.header_end.ensures.value ∙ c.in_default.is) (c.at.ensures ∙ first_fault c.args.text.now NoHeader))
 
 pub returns-in-End-None-clause-none : goal.returns-in-End-None-clause-none
 returns-in-End-None-clause-none c _ =
     let r = reads_of_body c.args.text.now c.body_before.result.now c.in-Some.from c.closing-line.result c.in_ok-tokens.field-0.tokens.items _ (End c.in-End-None.place)
     c.closing-line.ensures.value c.body_before.ensures c.in-End-None.is-0 c.in_ok-tokens.ensures.reads in
-    let none : closing c.args.text.now c.in-Some.from ≡ None = sym c.closing-line.ensures.value ∙ c.in-End-None.is-1 in
     fault_means_none c.args.text.now c.at-in-End-None.result
-    (no_closing_line c.in-Some.from c.in_ok-tokens.field-0.tokens.items c.in-End-None.place c.in_ok-check_utf8.ensures.ok (sym c.in-Some.ensures.value) none
-    (subst (λ x. Reads Module x c.in-Some.from c.in_ok-tokens.field-0.tokens.items (End c.in-End-None.place)) (body_none c.args.text.now c.in-Some.from none) r) c.at-in-End-None.ensures)
+    (fault_of_no_line c.args.text.now c.in-Some.from c.in_ok-tokens.field-0.tokens.items c.in-End-None.place c.at-in-End-None.result c.in_ok-check_utf8.ensures.ok
+    (sym c.in-Some.ensures.value) (sym c.closing-line.ensures.value ∙ c.in-End-None.is-1) r c.at-in-End-None.ensures)

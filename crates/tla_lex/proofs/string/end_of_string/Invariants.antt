@@ -1,5 +1,5 @@
 use Rattle.std.proofs.Common.{◌≡◌, ◌+◌, length, drop, false}
-use Rattle.tla_lex.specs.Strings.{end_from}
+use Rattle.tla_lex.specs.StringLoops.{end_from}
 use Rattle.tla_lex.proofs.string.end_of_string.Given as goal
 
 abbrev pub invariant-loop-left : goal.invariant-loop-left

@@ -1,5 +1,5 @@
 use Rattle.std.proofs.Common.{◌≡◌, ◌++◌, length}
-use Rattle.tla_lex.specs.Strings.{unescaped, string_text}
+use Rattle.tla_lex.specs.StringLoops.{unescaped, string_text}
 use Rattle.tla_lex.proofs.string.string_text.Given as goal
 
 abbrev pub invariant-loop-left : goal.invariant-loop-left

@@ -1,5 +1,5 @@
 use Rattle.std.proofs.Common.{◌≡◌, ◌+◌, length, drop, false}
-use Rattle.tla_lex.specs.Strings.{unknown_escape}
+use Rattle.tla_lex.specs.StringLoops.{unknown_escape}
 use Rattle.tla_lex.proofs.string.unknown_escape.Given as goal
 
 abbrev pub invariant-loop-left : goal.invariant-loop-left

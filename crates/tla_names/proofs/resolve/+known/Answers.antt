@@ -2,8 +2,8 @@ use Rattle.std.proofs.Common.{rules, ap, ◌∙◌, ◌++◌, [], None, map}
 use Rattle.tla_tree.specs.Tree.{trees, arms}
 use Rattle.tla_tree.specs.View.{view, key_view, definition_view, choice_view, views_items, bound_views_items, arm_views_items, definition_views_items, field_views_items, update_views_items}
 use Rattle.tla_names.specs.Maybe.{or_else}
-use Rattle.tla_names.specs.Known.{misused, misused_key, misused_fields, misused_updates, misused_each, misused_arms, misused_sets, misused_definition, misused_definitions, used, new_name, count}
-use Rattle.tla_names.specs.Scope.{plain, bound_names, signatures}
+use Rattle.tla_names.specs.Known.{misused, misused_key, misused_fields, misused_updates, misused_each, misused_arms, misused_sets, misused_definition, misused_definitions, used, new_name}
+use Rattle.tla_names.specs.Scope.{plain, bound_names, signatures, count}
 use Rattle.tla_names.proofs.Stacks.{count_trees, or_else_none}
 use Rattle.tla_names.proofs.resolve.+known.Goals as goal
 
