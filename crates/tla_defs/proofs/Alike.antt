@@ -15,17 +15,17 @@ use Rattle.tla_tree.specs.Places.{place}
 use Rattle.tla_tree.specs.Tree as t
 use Rattle.tla_tree.specs.Tree.{Tree, Trees, none, more, Binders, unbound, Arms, no_arms, arm, Other, no_other, other, Definition, DefinesOperator, DefinesFunction, Definitions, undefined, defined, Fields, no_fields, field, Key, AtIndex, AtField, Keys, no_keys, key, Updates, no_updates, update, Pattern}
 use Rattle.tla_items.specs.References.{names_in, names_each, names_sets, names_arms, names_other, names_fields, names_key, names_keys, names_updates, names_definition, names_definitions}
-use Rattle.tla_expand.specs.declared.primes.Primes.TheVariants.{Once}
-use Rattle.tla_expand.specs.Lists.{exprs}
-use Rattle.tla_expand.specs.Maybe.{◌>>=◌, each_of}
-use Rattle.tla_expand.specs.Places.{Name, place_of, at_name}
-use Rattle.tla_expand.specs.Primes.{primes}
-use Rattle.tla_expand.specs.Unchanged.{unchanged, changed}
-use Rattle.tla_expand.specs.Nodes.{two, binding}
-use Rattle.tla_expand.specs.Operators.{infix_for}
-use Rattle.tla_expand.specs.Meanings.{Argument, Meaning, Scope, with_name, bound_name, parameter, with_parameters, operator}
-use Rattle.tla_expand.specs.Bound.{Names, named, tupled, Bind, bind_entry, last_or, with_each, opening, under_openings, under, nested, with_elements, with_items, openings, set_for}
-use Rattle.tla_expand.specs.Expand.{expand, expand_each, expand_key, expand_arms, expand_other, expand_fields, expand_step, expand_path, expand_updates, arguments, binds_of, definitions_in, definition_in, of_quantifier, prefixed}
+use Rattle.tla_scopes.specs.declared.primes.Primes.TheVariants.{Once}
+use Rattle.tla_scopes.specs.Lists.{exprs}
+use Rattle.tla_scopes.specs.Maybe.{◌>>=◌, each_of}
+use Rattle.tla_scopes.specs.Places.{Name, place_of, at_name}
+use Rattle.tla_scopes.specs.Primes.{primes}
+use Rattle.tla_scopes.specs.Unchanged.{unchanged, changed}
+use Rattle.tla_scopes.specs.Nodes.{two, binding}
+use Rattle.tla_scopes.specs.Operators.{infix_for}
+use Rattle.tla_scopes.specs.Meanings.{Argument, Meaning, Scope, with_name, bound_name, parameter, with_parameters, operator}
+use Rattle.tla_scopes.specs.Bound.{Names, named, tupled, Bind, bind_entry, last_or, with_each, opening, under_openings, under, nested, with_elements, with_items, openings, set_for}
+use Rattle.tla_scopes.specs.Expand.{expand, expand_each, expand_key, expand_arms, expand_other, expand_fields, expand_step, expand_path, expand_updates, arguments, binds_of, definitions_in, definition_in, of_quantifier, prefixed}
 
 -- scopes that say the same of these names, and of `@`
 abbrev pub Alike : List Name → Scope → Scope → Type 0

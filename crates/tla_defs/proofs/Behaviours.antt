@@ -5,7 +5,7 @@ use Rattle.tla_tree.specs.declared.word.Written.{Written}
 use Rattle.tla_tree.specs.Tree.{Tree}
 use Rattle.tla_tree.specs.Units.{UnitTree}
 use Rattle.tla_config.specs.Statements.{Statement, Specification, Init, Next, Invariants, Constraints, Constants, CheckDeadlock}
-use Rattle.tla_expand.specs.Meanings.{Scope}
+use Rattle.tla_scopes.specs.Meanings.{Scope}
 use Rattle.tla_defs.specs.Model.{IsBehaviour, initials_named, nexts_named, specifications_named}
 use Rattle.tla_defs.specs.Refused.{Behaviour, Named, Specified, alone, behaviour}
 use Rattle.tla_defs.specs.Laws.{NamesInitAndNext, NamesSpecification}

@@ -12,7 +12,7 @@ use Rattle.tla_tree.specs.Tree.{Tree, Trees, none, more}
 use Rattle.tla_tree.specs.Tree as t
 use Rattle.tla_config.specs.Names.{Name}
 use Rattle.tla_names.specs.Scope.{Scope, arity, plain, bound_names}
-use Rattle.tla_expand.specs.Maybe.{◌>>=◌}
+use Rattle.tla_scopes.specs.Maybe.{◌>>=◌}
 use Rattle.tla_defs.specs.Bodies.{Bodies, body_has}
 use Rattle.tla_defs.specs.Private.Conjuncts.{initials_by, is_initial_by, AreMadeOfFairness}
 use Rattle.tla_defs.specs.Fairness.{fair_in, fair_each, fairness, fair_of, is_and}

@@ -9,7 +9,7 @@ use Rattle.tla_tree.specs.Tree.{Tree, Junction, trees}
 use Rattle.tla_tree.specs.Units.{UnitTree}
 use Rattle.tla_config.specs.Names.{Name}
 use Rattle.tla_config.specs.Statements.{Item}
-use Rattle.tla_expand.specs.Meanings.{Scope}
+use Rattle.tla_scopes.specs.Meanings.{Scope}
 use Rattle.tla_defs.specs.Private.Seen.{tree_at, seen}
 use Rattle.tla_defs.specs.Bodies.{Bodies, body_of}
 use Rattle.tla_defs.specs.Subscripts.{IsCover}

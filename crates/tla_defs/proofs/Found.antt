@@ -11,7 +11,7 @@ use Rattle.tla_tree.specs.Units.{UnitTree}
 use Rattle.tla_tree.specs.UnitsView.{unit_view}
 use Rattle.tla_config.specs.Names.{Name}
 use Rattle.tla_config.specs.Statements.{Statement, items_of, checks_deadlock}
-use Rattle.tla_expand.specs.Meanings.{Scope}
+use Rattle.tla_scopes.specs.Meanings.{Scope}
 use Rattle.tla_model.specs.ModelOf.{predicate_of, tree_of_parts}
 use Rattle.tla_model.specs.declared.state_predicate.StatePredicate.{StatePredicate}
 use Rattle.tla_defs.specs.Private.Formulas.{Follow, mentions}

@@ -2,7 +2,7 @@
 use Rattle.std.proofs.Common.{refl, arith, [], ◌∷◌}
 use Rattle.std.specs.Prelude.{codes}
 use Rattle.tla_tree.specs.Tree.{Name}
-use Rattle.tla_expand.specs.Meanings.{standard}
+use Rattle.tla_scopes.specs.Meanings.{standard}
 use Rattle.tla_defs.specs.Global.{meant}
 use Rattle.tla_defs.specs.GivenRows.{constant_unit, given_tree, given_item, variable_unit, unchanged_tree, replaced_units, replacement, WithValue, WithReplacement, Cycle, TwoVariables}
 use Rattle.tla_items.specs.References.{references, at_word}

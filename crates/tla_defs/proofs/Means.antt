@@ -7,9 +7,9 @@ use Rattle.tla_tree.specs.Units.{UnitTree}
 use Rattle.tla_config.specs.declared.error.DefsCode.TheVariants as c
 use Rattle.tla_config.specs.declared.error.DefsError.{DefsError}
 use Rattle.tla_config.specs.Statements.{Statement, Item, items_of}
-use Rattle.tla_expand.specs.declared.primes.Primes.TheVariants.{Once}
-use Rattle.tla_expand.specs.Meanings.{Scope}
-use Rattle.tla_expand.specs.Primes.{with_primes}
+use Rattle.tla_scopes.specs.declared.primes.Primes.TheVariants.{Once}
+use Rattle.tla_scopes.specs.Meanings.{Scope}
+use Rattle.tla_scopes.specs.Primes.{with_primes}
 use Rattle.tla_model.specs.ModelTree.{ModelTree}
 use Rattle.tla_defs.specs.declared.init_and_next.InitAndNext.{InitAndNext}
 use Rattle.tla_defs.specs.declared.init_and_next.InitAndNext.TheVariants as meant

@@ -2,7 +2,7 @@
 use Rattle.std.proofs.Common.{refl, arith, []}
 use Rattle.std.specs.Prelude.{codes}
 use Rattle.tla_tree.specs.Tree.{Name}
-use Rattle.tla_expand.specs.Meanings.{standard}
+use Rattle.tla_scopes.specs.Meanings.{standard}
 use Rattle.tla_defs.specs.Global.{meant}
 use Rattle.tla_defs.specs.NamedRows.{behind, plus_one, use_tree, let_tree, some_unit, meeting_tree, WithParameter, WithLet, WithoutCapture}
 use Rattle.tla_defs.specs.Rows.{word, init_before}

@@ -2,7 +2,7 @@
 use Rattle.std.proofs.Common.{◌≡◌, ◌∙◌, ℕ, zero, suc, ◌+◌, List, [], ◌∷◌, refl, sym, ap, None}
 use Rattle.tla_tree.specs.Units.{UnitTree}
 use Rattle.tla_config.specs.Statements.{Statement, Item, Value, Replaces, items_of}
-use Rattle.tla_expand.specs.Meanings.{Scope, standard}
+use Rattle.tla_scopes.specs.Meanings.{Scope, standard}
 use Rattle.tla_names.specs.Misuses.{misuse}
 use Rattle.tla_names.proofs.WellScopedModule.{well_scoped_module}
 use Rattle.tla_items.specs.Items.{replaceable_of, nameable_of, items_misused}

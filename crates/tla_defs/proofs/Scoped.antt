@@ -22,17 +22,17 @@ use Rattle.tla_names.specs.Operators.{infix_known, prefix_known, prefix_word}
 use Rattle.tla_names.specs.Scope as names
 use Rattle.tla_names.specs.Scope.{arity, plain, signature, signatures, bound_names, count}
 use Rattle.tla_names.specs.Known.{Misuse, Unknown, applied, used, brought, new_name, again, if_not, misused, misused_each, misused_sets, misused_arms, misused_other, misused_fields, misused_key, misused_keys, misused_updates, misused_definition, misused_definitions}
-use Rattle.tla_expand.specs.declared.primes.Primes.TheVariants.{Once}
-use Rattle.tla_expand.specs.Lists.{exprs}
-use Rattle.tla_expand.specs.Maybe.{◌>>=◌, each_of}
-use Rattle.tla_expand.specs.Places.{Name, place_of, at_name}
-use Rattle.tla_expand.specs.Primes.{primes}
-use Rattle.tla_expand.specs.Unchanged.{unchanged, changed}
-use Rattle.tla_expand.specs.Nodes.{two, binding}
-use Rattle.tla_expand.specs.Operators.{infix_for}
-use Rattle.tla_expand.specs.Meanings.{Argument, Meaning, Scope, with_name, bound_name, parameter, with_parameters, operator}
-use Rattle.tla_expand.specs.Bound.{Names, named, tupled, Bind, bind_each, bind_entry, last_or, with_each, opening, under_openings, under, nested, with_elements, with_items, openings, set_for}
-use Rattle.tla_expand.specs.Expand.{expand, expand_each, expand_key, expand_arms, expand_other, expand_fields, expand_step, expand_path, expand_updates, arguments, binds_of, definitions_in, definition_in, of_quantifier, prefixed}
+use Rattle.tla_scopes.specs.declared.primes.Primes.TheVariants.{Once}
+use Rattle.tla_scopes.specs.Lists.{exprs}
+use Rattle.tla_scopes.specs.Maybe.{◌>>=◌, each_of}
+use Rattle.tla_scopes.specs.Places.{Name, place_of, at_name}
+use Rattle.tla_scopes.specs.Primes.{primes}
+use Rattle.tla_scopes.specs.Unchanged.{unchanged, changed}
+use Rattle.tla_scopes.specs.Nodes.{two, binding}
+use Rattle.tla_scopes.specs.Operators.{infix_for}
+use Rattle.tla_scopes.specs.Meanings.{Argument, Meaning, Scope, with_name, bound_name, parameter, with_parameters, operator}
+use Rattle.tla_scopes.specs.Bound.{Names, named, tupled, Bind, bind_each, bind_entry, last_or, with_each, opening, under_openings, under, nested, with_elements, with_items, openings, set_for}
+use Rattle.tla_scopes.specs.Expand.{expand, expand_each, expand_key, expand_arms, expand_other, expand_fields, expand_step, expand_path, expand_updates, arguments, binds_of, definitions_in, definition_in, of_quantifier, prefixed}
 
 -- ---- names in scope
 abbrev pub knows : names.Scope → Name → Bool

@@ -11,11 +11,12 @@ use Rattle.tla_tree.specs.Tree as t
 use Rattle.tla_tree.specs.Units.{UnitTree, Separator, Extends, Variables, Operator, Defines, Local, Constants, Assume, Theorem}
 use Rattle.tla_config.specs.Names.{Name, words, is_among}
 use Rattle.tla_config.specs.Statements.{Statement, Item, Value, Replaces, items_of}
-use Rattle.tla_expand.specs.declared.primes.Primes.TheVariants.{Once, Twice}
-use Rattle.tla_expand.specs.Meanings.{Scope, standard, variable, with_name}
+use Rattle.tla_scopes.specs.declared.primes.Primes.TheVariants.{Once, Twice}
+use Rattle.tla_scopes.specs.Meanings.{Scope, standard, variable, with_name}
 use Rattle.tla_expand.specs.Fits.{FitsScope, FitsMeaning}
 use Rattle.tla_expand.proofs.PrimesFit.{primes_fit}
-use Rattle.tla_expand.proofs.Fitting.{expand_fits, definition_fits, name_fits, variable_fits, standard_fits}
+use Rattle.tla_expand.proofs.Fitting.{expand_fits, definition_fits}
+use Rattle.tla_expand.proofs.MeaningsFit.{name_fits, variable_fits, standard_fits}
 use Rattle.tla_model.specs.IsSound.{IsSound, IsUsable, AreUsable, bodies}
 use Rattle.tla_model.specs.ModelTree.{ModelTree}
 use Rattle.tla_model.specs.Size.{IsWithinLimits}

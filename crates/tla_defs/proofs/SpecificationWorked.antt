@@ -4,7 +4,7 @@ use Rattle.std.specs.Prelude.{codes}
 use Rattle.tla_tree.specs.declared.tree.Bullet.TheVariants as bullet
 use Rattle.tla_tree.specs.Tree.{Junction, more, none}
 use Rattle.tla_tree.specs.Units.{Operator}
-use Rattle.tla_expand.specs.Meanings.{standard}
+use Rattle.tla_scopes.specs.Meanings.{standard}
 use Rattle.tla_defs.specs.Global.{meant}
 use Rattle.tla_defs.specs.NamedRows.{name_at}
 use Rattle.tla_defs.specs.Rows.{place, word, x_at, now_at, init_before, frame, counter_tree}

@@ -8,12 +8,12 @@ use Rattle.tla_tree.specs.declared.tree.Bullet.TheVariants as bullet
 use Rattle.tla_tree.specs.declared.tree.Expr as s
 use Rattle.tla_tree.specs.Places.{place}
 use Rattle.tla_tree.specs.Tree.{Tree, trees, Junction}
-use Rattle.tla_expand.specs.declared.primes.Primes.TheVariants.{Once}
-use Rattle.tla_expand.specs.Meanings.{Scope}
-use Rattle.tla_expand.specs.Expand.{expand, expand_each}
-use Rattle.tla_expand.specs.Maybe.{◌>>=◌}
-use Rattle.tla_expand.specs.Places.{place_of}
-use Rattle.tla_expand.specs.Primes.{primes, primes_each, with_primes}
+use Rattle.tla_scopes.specs.declared.primes.Primes.TheVariants.{Once}
+use Rattle.tla_scopes.specs.Meanings.{Scope}
+use Rattle.tla_scopes.specs.Expand.{expand, expand_each}
+use Rattle.tla_scopes.specs.Maybe.{◌>>=◌}
+use Rattle.tla_scopes.specs.Places.{place_of}
+use Rattle.tla_scopes.specs.Primes.{primes, primes_each, with_primes}
 use Rattle.tla_expand.proofs.PrimesFit.{inv}
 use Rattle.tla_expand.proofs.Sizes.{some_node}
 use Rattle.tla_defs.specs.Private.Seen.{tree_at, seen}

@@ -18,10 +18,10 @@ use Rattle.tla_names.specs.Misuses.{misuse_from, misuse}
 use Rattle.tla_items.specs.Items.{replaced_name, replaced_names, unknown, differ, item_misused, items_misused, replaceable_of, nameable_of}
 use Rattle.tla_items.specs.References.{Reference, at_word, names_in, names_definition, names_sets, known_among, unit_references, units_references, item_reference, references, next_names, LeadsBy, IsCircular}
 use Rattle.tla_items.specs.Cycles.{AreStraight}
-use Rattle.tla_expand.specs.Places.{Name, at_name}
-use Rattle.tla_expand.specs.Meanings as x
-use Rattle.tla_expand.specs.Meanings.{Argument, Scope, Meaning, standard, with_name, variable, parameter, operator}
-use Rattle.tla_expand.specs.Expand.{expand, definition_in}
+use Rattle.tla_scopes.specs.Places.{Name, at_name}
+use Rattle.tla_scopes.specs.Meanings as x
+use Rattle.tla_scopes.specs.Meanings.{Argument, Scope, Meaning, standard, with_name, variable, parameter, operator}
+use Rattle.tla_scopes.specs.Expand.{expand, definition_in}
 use Rattle.tla_defs.specs.Given.{fixed, with_items}
 use Rattle.tla_defs.specs.Global.{with_variable, with_operator, variables_in, unless, units_in, meant}
 use Rattle.tla_defs.proofs.Alike.{Alike, expand_alike, operator_alike, function_alike}

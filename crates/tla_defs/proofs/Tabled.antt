@@ -11,7 +11,7 @@ use Rattle.tla_config.specs.Names.{Name}
 use Rattle.tla_config.specs.Statements.{Item}
 use Rattle.tla_items.specs.Items.{stands_for}
 use Rattle.tla_names.proofs.Inserted.{same, named, same_name, lookup_after}
-use Rattle.tla_expand.specs.Maybe.{◌>>=◌}
+use Rattle.tla_scopes.specs.Maybe.{◌>>=◌}
 use Rattle.tla_names.specs.Maybe.{or_else}
 use Rattle.tla_defs.specs.declared.table.Body.{Body}
 use Rattle.tla_defs.specs.Bodies.{Bodies, Property, body_if, body_in, body_of, body_has, names_with}

@@ -7,10 +7,10 @@ use Rattle.tla_tree.specs.Tree as t
 use Rattle.tla_tree.specs.Units.{UnitTree}
 use Rattle.tla_config.specs.Names.{Name}
 use Rattle.tla_config.specs.Statements.{Statement, Item, items_of}
-use Rattle.tla_expand.specs.declared.primes.Primes.TheVariants.{Once}
-use Rattle.tla_expand.specs.Meanings.{Scope}
-use Rattle.tla_expand.specs.Expand.{expand}
-use Rattle.tla_expand.specs.Primes.{primes}
+use Rattle.tla_scopes.specs.declared.primes.Primes.TheVariants.{Once}
+use Rattle.tla_scopes.specs.Meanings.{Scope}
+use Rattle.tla_scopes.specs.Expand.{expand}
+use Rattle.tla_scopes.specs.Primes.{primes}
 use Rattle.tla_model.specs.ModelTree.{ModelTree}
 use Rattle.tla_names.specs.Misuses.{variables_of}
 use Rattle.tla_formulas.specs.Formulas.{meaning_in, IsInitial}

@@ -14,7 +14,7 @@ use Rattle.tla_names.proofs.WellScopedModule.{well_scoped_module, named_statemen
 use Rattle.tla_items.specs.Items.{definitions_of, replaced_names}
 use Rattle.tla_model.specs.ModelTree.{ModelTree}
 use Rattle.tla_model.specs.Size.{nodes, depth, IsWithinLimits}
-use Rattle.tla_expand.specs.Meanings.{Scope, standard}
+use Rattle.tla_scopes.specs.Meanings.{Scope, standard}
 use Rattle.tla_defs.specs.Global.{meant}
 use Rattle.tla_defs.specs.Model.{IsBehaviour, IsModel, initials_named, nexts_named, specifications_named}
 use Rattle.tla_defs.specs.Rows.{word, init_before, frame, counter_tree, bounded_tree, plus_tree, below_three_tree, CounterOfThree, CounterOfFive, BoundedSteps, BoundedStepsMayEnd, CountsWithin, LargestNumber}

@@ -5,7 +5,7 @@ use Rattle.tla_tree.specs.Tree.{Tree, DefinesOperator}
 use Rattle.tla_tree.specs.Units.{UnitTree, Operator, Defines, Local, Assume}
 use Rattle.tla_config.specs.Names.{Name}
 use Rattle.tla_config.specs.Statements.{Item}
-use Rattle.tla_expand.specs.Maybe.{◌>>=◌}
+use Rattle.tla_scopes.specs.Maybe.{◌>>=◌}
 use Rattle.tla_items.specs.Items.{stands_for}
 
 -- the definitions of names

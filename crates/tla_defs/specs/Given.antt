@@ -3,8 +3,8 @@ use Rattle.std.specs.Prelude.{List, [], ◌∷◌, Some}
 use Rattle.tla_value.specs.Tree as value
 use Rattle.tla_core.specs.Expr.{constant}
 use Rattle.tla_config.specs.Statements.{Item, Value, Replaces}
-use Rattle.tla_expand.specs.Meanings as x
-use Rattle.tla_expand.specs.Meanings.{with_name, alone}
+use Rattle.tla_scopes.specs.Meanings as x
+use Rattle.tla_scopes.specs.Meanings.{with_name, alone}
 
 -- a value, at the place of its use
 abbrev pub fixed : value.Tree → x.Meaning

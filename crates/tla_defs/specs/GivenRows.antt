@@ -8,7 +8,7 @@ use Rattle.tla_tree.specs.declared.tree.Infix.TheVariants as op
 use Rattle.tla_tree.specs.declared.tree.Prefix.TheVariants as prefix
 use Rattle.tla_tree.specs.Tree.{Tree, Prime, Binary, Unary, Listing, more, none}
 use Rattle.tla_tree.specs.Units.{UnitTree, Variables, Constants, Operator}
-use Rattle.tla_expand.specs.Places.{place_of}
+use Rattle.tla_scopes.specs.Places.{place_of}
 use Rattle.tla_config.specs.Statements.{Item}
 use Rattle.tla_config.specs.Statements as s
 use Rattle.tla_items.specs.References.{references, IsCircular}

@@ -6,8 +6,8 @@ use Rattle.tla_tree.specs.Tree.{Tree}
 use Rattle.tla_tree.specs.Units.{UnitTree, Variables, Operator, Defines, Local, Assume}
 use Rattle.tla_config.specs.Names.{Name, is_among}
 use Rattle.tla_config.specs.Statements.{Item}
-use Rattle.tla_expand.specs.Meanings.{Scope, standard, with_name, variable, operator}
-use Rattle.tla_expand.specs.Expand.{expand, definition_in}
+use Rattle.tla_scopes.specs.Meanings.{Scope, standard, with_name, variable, operator}
+use Rattle.tla_scopes.specs.Expand.{expand, definition_in}
 use Rattle.tla_names.specs.Scope.{signature}
 use Rattle.tla_items.specs.Items.{replaced_names}
 use Rattle.tla_defs.specs.Given.{with_items}

@@ -5,7 +5,7 @@ use Rattle.tla_tree.specs.declared.word.Written.{Written}
 use Rattle.tla_tree.specs.Units.{UnitTree}
 use Rattle.tla_config.specs.Statements.{Statement, Item}
 use Rattle.tla_config.specs.View.{ConfigTree}
-use Rattle.tla_expand.specs.Meanings.{Scope}
+use Rattle.tla_scopes.specs.Meanings.{Scope}
 use Rattle.tla_names.specs.WellScopedModule.{IsWellScopedModule}
 use Rattle.tla_items.specs.Items.{replaceable_of, nameable_of, items_misused}
 use Rattle.tla_items.specs.References.{references}

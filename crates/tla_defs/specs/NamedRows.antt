@@ -9,7 +9,7 @@ use Rattle.tla_tree.specs.declared.tree.Quantifier.TheVariants as q
 use Rattle.tla_tree.specs.Tree.{Tree, Each, Name, Prime, Binary, Call, Let, Listing, Quantified, DefinesOperator, defined, undefined, more, none, unbound}
 use Rattle.tla_tree.specs.Tree as t
 use Rattle.tla_tree.specs.Units.{UnitTree, Extends, Variables, Operator, Defines}
-use Rattle.tla_expand.specs.Places.{place_of}
+use Rattle.tla_scopes.specs.Places.{place_of}
 use Rattle.tla_defs.specs.Model.{IsModel}
 use Rattle.tla_defs.specs.Rows.{place, word, x_at, number_at, constant_at, now_at, init_tree, statements, model}
 

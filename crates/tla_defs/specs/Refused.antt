@@ -10,10 +10,10 @@ use Rattle.tla_config.specs.declared.error.DefsError.{DefsError}
 use Rattle.tla_config.specs.declared.error.Source.TheVariants as source
 use Rattle.tla_config.specs.Statements.{Statement, Specification, Init, Next, Invariants, Constraints, Constants, CheckDeadlock, Item, items_of}
 use Rattle.tla_config.specs.View.{ConfigTree}
-use Rattle.tla_expand.specs.declared.primes.Primes.TheVariants.{Never, Once, Twice}
-use Rattle.tla_expand.specs.Expand.{expand}
-use Rattle.tla_expand.specs.Meanings.{Scope}
-use Rattle.tla_expand.specs.Primes.{with_primes}
+use Rattle.tla_scopes.specs.declared.primes.Primes.TheVariants.{Never, Once, Twice}
+use Rattle.tla_scopes.specs.Expand.{expand}
+use Rattle.tla_scopes.specs.Meanings.{Scope}
+use Rattle.tla_scopes.specs.Primes.{with_primes}
 use Rattle.tla_names.specs.Maybe.{or_else}
 use Rattle.tla_items.specs.Items.{definitions_of}
 use Rattle.tla_names.specs.Misuses.{misuse, variables_of}

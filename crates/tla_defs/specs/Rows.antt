@@ -8,7 +8,7 @@ use Rattle.tla_tree.specs.declared.word.Written.{Written}
 use Rattle.tla_tree.specs.declared.tree.Infix.TheVariants as op
 use Rattle.tla_tree.specs.Tree.{Tree, Name, Number, Paren, Prime, Binary}
 use Rattle.tla_tree.specs.Units.{UnitTree, Extends, Variables, Operator}
-use Rattle.tla_expand.specs.Places.{place_of}
+use Rattle.tla_scopes.specs.Places.{place_of}
 use Rattle.tla_config.specs.Statements.{Statement, CheckDeadlock}
 use Rattle.tla_config.specs.Statements as s
 use Rattle.tla_model.specs.ModelTree.{ModelTree}

@@ -13,8 +13,8 @@ use Rattle.tla_tree.specs.Tree as t
 use Rattle.tla_tree.specs.Units.{UnitTree}
 use Rattle.tla_config.specs.Names.{Name}
 use Rattle.tla_config.specs.Statements.{Item}
-use Rattle.tla_expand.specs.Meanings.{Scope}
-use Rattle.tla_expand.specs.Maybe.{◌>>=◌}
+use Rattle.tla_scopes.specs.Meanings.{Scope}
+use Rattle.tla_scopes.specs.Maybe.{◌>>=◌}
 use Rattle.tla_defs.specs.Bodies.{Bodies, body_of}
 use Rattle.tla_defs.specs.Fairness.{fair}
 use Rattle.tla_defs.specs.Subscripts.{IsCover}

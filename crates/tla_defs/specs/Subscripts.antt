@@ -3,8 +3,8 @@ use Rattle.std.specs.Prelude.{◌≡◌, ℕ, true, Some}
 use Rattle.tla_core.specs.Expr.{Expr}
 use Rattle.tla_tree.specs.Tree.{Tree}
 use Rattle.tla_expand.specs.Covers.{covers}
-use Rattle.tla_expand.specs.Meanings.{Scope}
-use Rattle.tla_expand.specs.Expand.{expand}
+use Rattle.tla_scopes.specs.Meanings.{Scope}
+use Rattle.tla_scopes.specs.Expand.{expand}
 
 -- a formula whose expansion covers n variables, however large it is: the limits are those of formulas
 pub record IsCover (σ : Scope) (variables : ℕ) (subscript : Tree) : Type 0 where

@@ -7,7 +7,7 @@ ghost use Rattle.tla_config.specs.Statements.{items_of, checks_deadlock};
 ghost use Rattle.tla_config.specs.View.{statement_view};
 ghost use Rattle.tla_core.specs.Expr as expr;
 ghost use Rattle.tla_core.specs.ExprOf.{expr_of};
-ghost use Rattle.tla_expand.specs.declared.primes.Primes.TheVariants as read;
+ghost use Rattle.tla_scopes.specs.declared.primes.Primes.TheVariants as read;
 ghost use Rattle.tla_expand.specs.Names.{scope_of};
 ghost use Rattle.tla_model.specs.ModelTree.{ModelTree};
 ghost use Rattle.tla_model.specs.ModelOf.{predicate_of};

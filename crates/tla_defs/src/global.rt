@@ -4,8 +4,8 @@ ghost use Rattle.std.specs.Prelude.{◌≡◌, ◌≤◌, ◌<◌, ◌+◌, ◌�
 ghost use Rattle.tla_config.specs.declared.error.DefsCode.TheVariants.{Memory};
 ghost use Rattle.tla_config.specs.Names.{is_among};
 ghost use Rattle.tla_config.specs.View.{item_view};
-ghost use Rattle.tla_expand.specs.Expand.{definition_in};
-ghost use Rattle.tla_expand.specs.Meanings.{standard};
+ghost use Rattle.tla_scopes.specs.Expand.{definition_in};
+ghost use Rattle.tla_scopes.specs.Meanings.{standard};
 ghost use Rattle.tla_expand.specs.Names.{scope_of, outer_of, size_of};
 ghost use Rattle.tla_tree.specs.Units.{UnitTree};
 ghost use Rattle.tla_tree.specs.UnitsView.{unit_view};

@@ -4,8 +4,8 @@ ghost use Rattle.std.specs.Prelude.{◌≡◌, ◌≢◌, Some, map, IfOk, IfErr
 ghost use Rattle.tla_config.specs.declared.error.DefsCode.TheVariants.{Memory};
 ghost use Rattle.tla_core.specs.Expr as expr;
 ghost use Rattle.tla_core.specs.ExprOf.{expr_of};
-ghost use Rattle.tla_expand.specs.declared.primes.Primes.TheVariants as read;
-ghost use Rattle.tla_expand.specs.Expand.{expand};
+ghost use Rattle.tla_scopes.specs.declared.primes.Primes.TheVariants as read;
+ghost use Rattle.tla_scopes.specs.Expand.{expand};
 ghost use Rattle.tla_expand.specs.Names.{scope_of};
 ghost use Rattle.tla_tree.specs.declared.tree.Bullet.TheVariants as bullet;
 ghost use Rattle.tla_tree.specs.Tree.{Tree, Junction, trees as trees_of};

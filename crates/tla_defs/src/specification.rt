@@ -2,9 +2,9 @@
 
 ghost use Rattle.std.specs.Prelude.{◌≡◌, ◌≢◌, None, map, OnOk, IfOk, IfErr};
 ghost use Rattle.tla_config.specs.declared.error.DefsCode.TheVariants.{Memory};
-ghost use Rattle.tla_expand.specs.Expand.{expand};
+ghost use Rattle.tla_scopes.specs.Expand.{expand};
 ghost use Rattle.tla_expand.specs.Names.{scope_of};
-ghost use Rattle.tla_expand.specs.Primes.{with_primes};
+ghost use Rattle.tla_scopes.specs.Primes.{with_primes};
 ghost use Rattle.tla_tree.specs.UnitsView.{unit_view};
 ghost use Rattle.tla_tree.specs.View.{view};
 ghost use Rattle.tla_defs.specs.Private.Seen.{seen};

@@ -1,23 +1,23 @@
 -- Expressions behind references, and their conjunction.
-use Rattle.std.proofs.Common.{◌≡◌, ◌≢◌, ◌≤◌, ◌<◌, ◌+◌, ℕ, List, [], ◌∷◌, Option, Some, None, length, map, get_or, arith, refl, ap, sym, ◌∙◌}
+use Rattle.std.proofs.Common.{◌≡◌, ◌≢◌, ◌<◌, ℕ, List, [], ◌∷◌, Option, Some, None, length, map, get_or, arith, refl, ap, sym, ◌∙◌}
 use Rattle.std.proofs.lemmas.List.{get_or-map}
 use Rattle.std.specs.Borrow.{Bor}
 use Rattle.tla_core.specs.declared.fault.Place.{Place}
-use Rattle.tla_core.specs.Expr.{Expr, Exprs, conjunction}
+use Rattle.tla_core.specs.Expr.{Expr, conjunction}
 use Rattle.tla_model.specs.Size.{IsWithinLimits, nodes, depth}
 use Rattle.tla_tree.specs.declared.tree.Expr as syntax
 use Rattle.tla_tree.specs.Tree.{Tree, Trees, trees}
 use Rattle.tla_tree.specs.View.{view}
-use Rattle.tla_expand.specs.declared.failure.Failure.{Failure}
-use Rattle.tla_expand.specs.declared.failure.Failure.TheVariants.{NoExpansion, TooLarge, Memory}
-use Rattle.tla_expand.specs.declared.nodes.ListNode.TheVariants as manies
-use Rattle.tla_expand.specs.declared.primes.Primes.{Primes}
-use Rattle.tla_expand.specs.Lists.{exprs}
-use Rattle.tla_expand.specs.Meanings.{Scope}
-use Rattle.tla_expand.specs.Expand.{expand_each}
+use Rattle.tla_scopes.specs.declared.failure.Failure.{Failure}
+use Rattle.tla_scopes.specs.declared.failure.Failure.TheVariants.{NoExpansion, TooLarge, Memory}
+use Rattle.tla_scopes.specs.declared.nodes.ListNode.TheVariants as manies
+use Rattle.tla_scopes.specs.declared.primes.Primes.{Primes}
+use Rattle.tla_scopes.specs.Lists.{exprs}
+use Rattle.tla_scopes.specs.Meanings.{Scope}
+use Rattle.tla_scopes.specs.Expand.{expand_each}
 use Rattle.tla_expand.specs.Private.Gives.{part_in, pointed, total, highest, FailsBy, Fails, Makes}
-use Rattle.tla_expand.specs.Maybe.{◌>>=◌, each_of}
-use Rattle.tla_expand.specs.Primes.{with_primes}
+use Rattle.tla_scopes.specs.Maybe.{◌>>=◌, each_of}
+use Rattle.tla_scopes.specs.Primes.{with_primes}
 use Rattle.tla_expand.proofs.Lists.{each_in}
 use Rattle.tla_expand.proofs.Made.{many_larger, many_shown}
 use Rattle.tla_expand.proofs.Sizes.{Given, node_fails, node_gives}

@@ -9,27 +9,27 @@ use Rattle.tla_tree.specs.declared.tree.Field.{Field}
 use Rattle.tla_tree.specs.declared.tree.Update.{Update}
 use Rattle.tla_tree.specs.Tree.{trees, arms, fields, updates}
 use Rattle.tla_tree.specs.View.{view, choice_view, field_view, update_view}
-use Rattle.tla_expand.specs.declared.primes.Primes.{Primes}
-use Rattle.tla_expand.specs.declared.nodes.Headed.TheVariants as headed
+use Rattle.tla_scopes.specs.declared.primes.Primes.{Primes}
+use Rattle.tla_scopes.specs.declared.nodes.Headed.TheVariants as headed
 use Rattle.tla_tree.specs.declared.tree.Step.TheVariants as steps
-use Rattle.tla_expand.specs.declared.nodes.Form.{Form}
-use Rattle.tla_expand.specs.declared.nodes.Form.TheVariants as form
-use Rattle.tla_expand.specs.declared.nodes.UnaryNode.{UnaryNode}
-use Rattle.tla_expand.specs.declared.nodes.BinaryNode.{BinaryNode}
-use Rattle.tla_expand.specs.declared.nodes.BinaryNode.TheVariants as twos
-use Rattle.tla_expand.specs.declared.nodes.TernaryNode.{TernaryNode}
-use Rattle.tla_expand.specs.declared.nodes.ListNode.{ListNode}
-use Rattle.tla_expand.specs.declared.nodes.Fielded.{Fielded}
-use Rattle.tla_expand.specs.Maybe.{◌>>=◌, each_of}
-use Rattle.tla_expand.specs.Lists.{exprs, arms_with, fields_of, updates_of}
-use Rattle.tla_expand.specs.Primes.{settled_primes, with_primes}
-use Rattle.tla_expand.specs.Nodes.{one, two, three, many, fielded}
-use Rattle.tla_expand.specs.Unchanged.{unchanged, changed}
-use Rattle.tla_expand.specs.declared.nodes.Builtin.TheVariants as builtin
-use Rattle.tla_expand.specs.Meanings.{Scope, builtin_meaning}
-use Rattle.tla_expand.specs.Scopes.{arguments_in}
-use Rattle.tla_expand.specs.Expand.{expand, expand_each, expand_key, expand_arms, expand_fields, expand_updates}
-use Rattle.tla_expand.specs.Private.Forms.{form_in}
+use Rattle.tla_scopes.specs.declared.nodes.Form.{Form}
+use Rattle.tla_scopes.specs.declared.nodes.Form.TheVariants as form
+use Rattle.tla_scopes.specs.declared.nodes.UnaryNode.{UnaryNode}
+use Rattle.tla_scopes.specs.declared.nodes.BinaryNode.{BinaryNode}
+use Rattle.tla_scopes.specs.declared.nodes.BinaryNode.TheVariants as twos
+use Rattle.tla_scopes.specs.declared.nodes.TernaryNode.{TernaryNode}
+use Rattle.tla_scopes.specs.declared.nodes.ListNode.{ListNode}
+use Rattle.tla_scopes.specs.declared.nodes.Fielded.{Fielded}
+use Rattle.tla_scopes.specs.Maybe.{◌>>=◌, each_of}
+use Rattle.tla_scopes.specs.Lists.{exprs, arms_with, fields_of, updates_of}
+use Rattle.tla_scopes.specs.Primes.{settled_primes, with_primes}
+use Rattle.tla_scopes.specs.Nodes.{one, two, three, many, fielded}
+use Rattle.tla_scopes.specs.Unchanged.{unchanged, changed}
+use Rattle.tla_scopes.specs.declared.nodes.Builtin.TheVariants as builtin
+use Rattle.tla_scopes.specs.Meanings.{Scope, builtin_meaning}
+use Rattle.tla_scopes.specs.Scopes.{arguments_in}
+use Rattle.tla_scopes.specs.Expand.{expand, expand_each, expand_key, expand_arms, expand_fields, expand_updates}
+use Rattle.tla_scopes.specs.Forms.{form_in}
 use Rattle.tla_expand.specs.Private.Gives.{both, part_in, key_in, arm_in, field_in, update_in, kept_part, changed_in}
 use Rattle.tla_expand.proofs.Made.{one_shown, two_shown, three_shown, many_shown, cases_shown, fielded_shown, product_shown, except_shown, Triple}
 use Rattle.tla_expand.proofs.Lists.{each_in, arms_in, arms_or_in}

@@ -2,17 +2,17 @@
 use Rattle.std.proofs.Common.{ℕ, List, [], ◌∷◌, Option, Some, None}
 use Rattle.tla_core.specs.declared.fault.Place.{Place}
 use Rattle.tla_core.specs.Expr.{Expr}
-use Rattle.tla_expand.specs.declared.nodes.Builtin.{Builtin}
-use Rattle.tla_expand.specs.declared.nodes.Builtin.TheVariants as builtin
-use Rattle.tla_expand.specs.declared.nodes.Leaf.{Leaf}
-use Rattle.tla_expand.specs.declared.nodes.Leaf.TheVariants as leaves
-use Rattle.tla_expand.specs.declared.nodes.UnaryNode.{UnaryNode}
-use Rattle.tla_expand.specs.declared.nodes.UnaryNode.TheVariants as ones
-use Rattle.tla_expand.specs.declared.nodes.BinaryNode.{BinaryNode}
-use Rattle.tla_expand.specs.declared.nodes.TernaryNode.{TernaryNode}
-use Rattle.tla_expand.specs.Maybe.{◌>>=◌}
-use Rattle.tla_expand.specs.Nodes.{leaf, one, two, three}
-use Rattle.tla_expand.specs.Meanings.{Argument, builtin_meaning}
+use Rattle.tla_scopes.specs.declared.nodes.Builtin.{Builtin}
+use Rattle.tla_scopes.specs.declared.nodes.Builtin.TheVariants as builtin
+use Rattle.tla_scopes.specs.declared.nodes.Leaf.{Leaf}
+use Rattle.tla_scopes.specs.declared.nodes.Leaf.TheVariants as leaves
+use Rattle.tla_scopes.specs.declared.nodes.UnaryNode.{UnaryNode}
+use Rattle.tla_scopes.specs.declared.nodes.UnaryNode.TheVariants as ones
+use Rattle.tla_scopes.specs.declared.nodes.BinaryNode.{BinaryNode}
+use Rattle.tla_scopes.specs.declared.nodes.TernaryNode.{TernaryNode}
+use Rattle.tla_scopes.specs.Maybe.{◌>>=◌}
+use Rattle.tla_scopes.specs.Nodes.{leaf, one, two, three}
+use Rattle.tla_scopes.specs.Meanings.{Argument, builtin_meaning}
 
 -- what holds of nothing and of such nodes
 pub record HoldsOfUses (P : Option Expr → Type 0) (p : Place) : Type 0 where

@@ -3,25 +3,25 @@ use Rattle.std.proofs.Common.{◌≡◌, ◌≤◌, ℕ, suc, ◌+◌, List, [],
 use Rattle.tla_core.specs.declared.fault.Place.{Place}
 use Rattle.tla_core.specs.Expr.{Expr}
 use Rattle.tla_model.specs.Size.{nodes, depth}
-use Rattle.tla_expand.specs.declared.failure.Failure.{Failure}
-use Rattle.tla_expand.specs.declared.primes.Primes.{Primes}
+use Rattle.tla_scopes.specs.declared.failure.Failure.{Failure}
+use Rattle.tla_scopes.specs.declared.primes.Primes.{Primes}
 use Rattle.tla_expand.specs.declared.binders.Bind.{Bind}
-use Rattle.tla_expand.specs.declared.nodes.Gather.{Gather}
-use Rattle.tla_expand.specs.Maybe.{◌>>=◌, each_of}
-use Rattle.tla_expand.specs.Lists.{exprs}
-use Rattle.tla_expand.specs.Primes.{primes, with_primes}
-use Rattle.tla_expand.specs.Nodes.{gather}
-use Rattle.tla_expand.specs.Meanings.{Scope, Argument}
-use Rattle.tla_expand.specs.Bound as x
+use Rattle.tla_scopes.specs.declared.nodes.Gather.{Gather}
+use Rattle.tla_scopes.specs.Maybe.{◌>>=◌, each_of}
+use Rattle.tla_scopes.specs.Lists.{exprs}
+use Rattle.tla_scopes.specs.Primes.{primes, with_primes}
+use Rattle.tla_scopes.specs.Nodes.{gather}
+use Rattle.tla_scopes.specs.Meanings.{Scope, Argument}
+use Rattle.tla_scopes.specs.Bound as x
 use Rattle.tla_core.specs.Expr.{tried}
 use Rattle.tla_core.specs.Patterns.{items_in}
 use Rattle.tla_tree.specs.View.{view}
-use Rattle.tla_expand.specs.Expand.{expand}
-use Rattle.tla_expand.specs.Bound.{with_elements, with_items, openings, under_openings, gathered}
+use Rattle.tla_scopes.specs.Expand.{expand}
+use Rattle.tla_scopes.specs.Bound.{with_elements, with_items, openings, under_openings, gathered}
 use Rattle.tla_expand.specs.Private.Binders.{names_of, binds_in}
 use Rattle.tla_expand.specs.Private.Gives.{both, total, highest, sum_of, larger_of, set_in, Makes, FailsBy, Fails}
 use Rattle.tla_expand.proofs.Keeps.{inv}
-use Rattle.tla_expand.proofs.Primed.{one}
+use Rattle.tla_scopes.proofs.Primed.{one}
 use Rattle.tla_expand.proofs.Groups.{binds_length}
 use Rattle.tla_expand.proofs.Lists.{each_then}
 use Rattle.tla_expand.proofs.Made.{gather_larger, gather_shown}
@@ -51,8 +51,8 @@ some_nodes : (xs : List Expr) → length xs ≤ total nodes xs
 some_nodes [] = omega arith
 some_nodes (x ∷ xs) = omega (arith, some_node x, some_nodes xs)
 
-pub names_small : {A : Type 0} (f : A → Option Expr) (ts : List A) (xs : List Expr) (rest left : ℕ) → each_of f ts ≡ Some xs → rest + total nodes xs ≡ left → rest + length ts ≤ left
-names_small f ts xs rest left h n = omega (arith, each_length f ts xs h, some_nodes xs, n)
+pub names_small : {A : Type 0} (f : A → Option Expr) (ts : List A) (xs : List Expr) (rest nodes_left : ℕ) → each_of f ts ≡ Some xs → rest + total nodes xs ≡ nodes_left → rest + length ts ≤ nodes_left
+names_small f ts xs rest nodes_left h n = omega (arith, each_length f ts xs h, some_nodes xs, n)
 
 abbrev Pair : Type 0
 Pair = List Expr × Expr
@@ -73,19 +73,19 @@ module _ (f : Gather) (p : Place) (bs : List x.Bind) (binds : List Bind) (body :
       (gather_shown f k p (each_of (λ (b : x.Bind). x.set_for p b.0 (b.1 d)) bs) (under_openings p (openings bs d) (body τ (d + length binds + items_in (openings bs d)))) sets
       (each_then (λ (b : x.Bind). x.set_for p b.0 (b.1 d)) (primes k) bs ∙ rw (← is) (sets_in p k σ d binds)))
 
-  pub sets_fail : (s : Failure) (room left : ℕ) → FailsBy (total nodes) (highest depth) room left s sets → Fails (room + 1) (left + 1) s (with_primes k (gathered f p bs body σ d))
-  sets_fail s room left h =
-      rw whole (node_fails (sum_of (total nodes) nodes) (larger_of (highest depth) depth) (λ (xy : Pair). gather f p (exprs xy.0) xy.1) s (both sets inner) room left (gather_larger f p)
-      (first_fails (total nodes) (highest depth) nodes depth s sets inner room left h))
+  pub sets_fail : (s : Failure) (depth_left nodes_left : ℕ) → FailsBy (total nodes) (highest depth) depth_left nodes_left s sets → Fails (depth_left + 1) (nodes_left + 1) s (with_primes k (gathered f p bs body σ d))
+  sets_fail s depth_left nodes_left h =
+      rw whole (node_fails (sum_of (total nodes) nodes) (larger_of (highest depth) depth) (λ (xy : Pair). gather f p (exprs xy.0) xy.1) s (both sets inner) depth_left nodes_left (gather_larger f p)
+      (first_fails (total nodes) (highest depth) nodes depth s sets inner depth_left nodes_left h))
 
-  pub body_fails : (s : Failure) (room left less : ℕ) (xs : List Expr) → Makes (total nodes) (highest depth) room left less xs sets → Fails room less s inner
-      → Fails (room + 1) (left + 1) s (with_primes k (gathered f p bs body σ d))
-  body_fails s room left less xs g h =
-      rw whole (node_fails (sum_of (total nodes) nodes) (larger_of (highest depth) depth) (λ (xy : Pair). gather f p (exprs xy.0) xy.1) s (both sets inner) room left (gather_larger f p)
-      (second_fails (total nodes) (highest depth) nodes depth s sets inner xs room left less g.0 g.1 h))
+  pub body_fails : (s : Failure) (depth_left nodes_left less : ℕ) (xs : List Expr) → Makes (total nodes) (highest depth) depth_left nodes_left less xs sets → Fails depth_left less s inner
+      → Fails (depth_left + 1) (nodes_left + 1) s (with_primes k (gathered f p bs body σ d))
+  body_fails s depth_left nodes_left less xs g h =
+      rw whole (node_fails (sum_of (total nodes) nodes) (larger_of (highest depth) depth) (λ (xy : Pair). gather f p (exprs xy.0) xy.1) s (both sets inner) depth_left nodes_left (gather_larger f p)
+      (second_fails (total nodes) (highest depth) nodes depth s sets inner xs depth_left nodes_left less g.0 g.1 h))
 
-  pub gather_gives : (room left less last : ℕ) (xs : List Expr) (y c : Expr) → Makes (total nodes) (highest depth) room left less xs sets → Makes nodes depth room less last y inner → c ≡ gather f p (exprs xs) y
-      → Given (with_primes k (gathered f p bs body σ d)) c last (left + 1) (room + 1)
-  gather_gives room left less last xs y c g h e =
-      rw whole (node_gives (sum_of (total nodes) nodes) (larger_of (highest depth) depth) (λ (xy : Pair). gather f p (exprs xy.0) xy.1) (both sets inner) (xs, y) c room left last (gather_larger f p)
-      (two_give (total nodes) (highest depth) nodes depth sets inner xs y room left less last g h) e)
+  pub gather_gives : (depth_left nodes_left less last : ℕ) (xs : List Expr) (y c : Expr) → Makes (total nodes) (highest depth) depth_left nodes_left less xs sets → Makes nodes depth depth_left less last y inner → c ≡ gather f p (exprs xs) y
+      → Given (with_primes k (gathered f p bs body σ d)) c last (nodes_left + 1) (depth_left + 1)
+  gather_gives depth_left nodes_left less last xs y c g h e =
+      rw whole (node_gives (sum_of (total nodes) nodes) (larger_of (highest depth) depth) (λ (xy : Pair). gather f p (exprs xy.0) xy.1) (both sets inner) (xs, y) c depth_left nodes_left last (gather_larger f p)
+      (two_give (total nodes) (highest depth) nodes depth sets inner xs y depth_left nodes_left less last g h) e)

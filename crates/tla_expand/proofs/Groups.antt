@@ -6,16 +6,16 @@ use Rattle.tla_tree.specs.declared.tree.Binder.{Binder}
 use Rattle.tla_tree.specs.Tree.{Pattern, Each, Tuple, binders}
 use Rattle.tla_tree.specs.View.{view, pattern_view, group_view}
 use Rattle.tla_expand.specs.declared.binders.Bind.{Bind}
-use Rattle.tla_expand.specs.Bound as x
-use Rattle.tla_expand.specs.Meanings.{Scope, Argument}
+use Rattle.tla_scopes.specs.Bound as x
+use Rattle.tla_scopes.specs.Meanings.{Scope, Argument}
 use Rattle.tla_core.specs.declared.expression.Opening.{Opening}
 use Rattle.tla_core.specs.Patterns.{items_in}
-use Rattle.tla_expand.specs.Bound.{bind_each, bind_entry, with_each, with_elements, with_items, openings}
-use Rattle.tla_expand.specs.Expand.{binds_of, expand}
+use Rattle.tla_scopes.specs.Bound.{bind_each, bind_entry, with_each, with_elements, with_items, openings}
+use Rattle.tla_scopes.specs.Expand.{binds_of, expand}
 use Rattle.tla_expand.specs.Private.Binders.{names_of, binds_in, opened_at, with_element, item_names}
 use Rattle.tla_expand.specs.Private.Gives.{most_named}
-use Rattle.tla_expand.specs.Places.{Name}
-use Rattle.tla_expand.specs.Meanings.{with_name, bound_name}
+use Rattle.tla_scopes.specs.Places.{Name}
+use Rattle.tla_scopes.specs.Meanings.{with_name, bound_name}
 
 pub bind_each_more : (ws : List Written) (s : Argument) (rest : List x.Bind) → bind_each ws s rest ≡ bind_each ws s [] ++ rest
 bind_each_more [] s rest = refl

@@ -2,11 +2,11 @@
 use Rattle.std.proofs.Common.{◌≡◌, ℕ, refl, ◌∙◌, Option, Some, None}
 use Rattle.tla_core.specs.declared.fault.Place.{Place}
 use Rattle.tla_core.specs.Expr.{Expr, Exprs, Fields, Arms, Updates, constant, bound, now, next, unary, binary, equal, sub_seq, enumerated, tuple, record_of, conjunction, disjunction, implies, conditional, cases, assert, for_all, for_some, choose, image, function, except, member, not_member, subset, kind_set, booleans, sequences, power, functions, records, product, cup, cap, minus, filtered, opened, tried, no_exprs, more_exprs, no_fields, more_fields, no_arms, other, more_arms, no_updates, more_updates}
-use Rattle.tla_expand.specs.declared.primes.Primes.{Primes}
-use Rattle.tla_expand.specs.declared.primes.Primes.TheVariants.{Never, Once, Twice}
-use Rattle.tla_expand.specs.Maybe.{◌>>=◌}
-use Rattle.tla_expand.specs.Primes.{primes, primes_each, primes_fields, primes_arms, primes_updates, one_more, primed_now, primed_next}
-use Rattle.tla_expand.proofs.Primed.{one, two, three}
+use Rattle.tla_scopes.specs.declared.primes.Primes.{Primes}
+use Rattle.tla_scopes.specs.declared.primes.Primes.TheVariants.{Never, Once, Twice}
+use Rattle.tla_scopes.specs.Maybe.{◌>>=◌}
+use Rattle.tla_scopes.specs.Primes.{primes, primes_each, primes_fields, primes_arms, primes_updates, one_more, primed_now, primed_next}
+use Rattle.tla_scopes.proofs.Primed.{one, two, three}
 
 then_once_now : (k : Primes) (p : Place) (i : ℕ) → (primed_now k p i >>= primes Once) ≡ primed_now (one_more k) p i
 then_once_now Never p i = refl

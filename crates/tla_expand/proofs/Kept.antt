@@ -2,16 +2,16 @@
 use Rattle.std.proofs.Common.{◌≡◌, false, refl, ap, sym, ◌∙◌, Option, Some, None}
 use Rattle.tla_core.specs.declared.fault.Place.{Place}
 use Rattle.tla_core.specs.Expr.{Unequal, Expr, Exprs, constant, bound, now, next, unary, binary, equal, sub_seq, enumerated, tuple, record_of, conjunction, disjunction, implies, conditional, cases, assert, for_all, for_some, choose, image, function, except, member, not_member, subset, kind_set, booleans, sequences, power, functions, records, product, cup, cap, minus, filtered, opened, tried, no_exprs, more_exprs}
-use Rattle.tla_expand.specs.declared.primes.Primes.{Primes}
-use Rattle.tla_expand.specs.declared.primes.Primes.TheVariants.{Never, Once, Twice}
-use Rattle.tla_expand.specs.Maybe.{◌>>=◌}
-use Rattle.tla_expand.specs.Primes.{primes, primes_each, one_more}
-use Rattle.tla_expand.specs.Primes.{settled_primes}
-use Rattle.tla_expand.specs.Nodes.{kept}
-use Rattle.tla_expand.specs.Unchanged.{unchanged, unchanged_each, changed}
+use Rattle.tla_scopes.specs.declared.primes.Primes.{Primes}
+use Rattle.tla_scopes.specs.declared.primes.Primes.TheVariants.{Never, Once, Twice}
+use Rattle.tla_scopes.specs.Maybe.{◌>>=◌}
+use Rattle.tla_scopes.specs.Primes.{primes, primes_each, one_more}
+use Rattle.tla_scopes.specs.Primes.{settled_primes}
+use Rattle.tla_scopes.specs.Nodes.{kept}
+use Rattle.tla_scopes.specs.Unchanged.{unchanged, unchanged_each, changed}
 use Rattle.tla_expand.specs.Private.Gives.{both, is_tuple, Plain}
-use Rattle.tla_expand.specs.Primes.{with_primes}
-use Rattle.tla_expand.proofs.Primed.{once, one, two, unprimed}
+use Rattle.tla_scopes.specs.Primes.{with_primes}
+use Rattle.tla_scopes.proofs.Primed.{once, one, two, unprimed}
 use Rattle.tla_expand.proofs.Keeps.{then_once, stays}
 
 pub unchanged_plain : (p : Place) (e : Expr) → is_tuple e ≡ false → unchanged p e ≡ (primes Once e >>= λ x. Some (equal p x e))

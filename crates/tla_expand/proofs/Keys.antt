@@ -5,11 +5,11 @@ use Rattle.tla_core.specs.Expr.{tuple}
 use Rattle.tla_tree.specs.declared.tree.Expr as syntax
 use Rattle.tla_tree.specs.Places.{place}
 use Rattle.tla_tree.specs.View.{view}
-use Rattle.tla_expand.specs.declared.primes.Primes.{Primes}
-use Rattle.tla_expand.specs.Maybe.{◌>>=◌, each_of}
-use Rattle.tla_expand.specs.Lists.{exprs}
-use Rattle.tla_expand.specs.Places.{place_of}
-use Rattle.tla_expand.specs.Meanings.{Scope}
+use Rattle.tla_scopes.specs.declared.primes.Primes.{Primes}
+use Rattle.tla_scopes.specs.Maybe.{◌>>=◌, each_of}
+use Rattle.tla_scopes.specs.Lists.{exprs}
+use Rattle.tla_scopes.specs.Places.{place_of}
+use Rattle.tla_scopes.specs.Meanings.{Scope}
 use Rattle.tla_expand.specs.Private.Gives.{part_in, key_in}
 use Rattle.tla_expand.proofs.Lists.{key_of_several}
 

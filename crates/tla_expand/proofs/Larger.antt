@@ -3,11 +3,11 @@ use Rattle.std.proofs.Common.{◌≡◌, ◌≤◌, ◌+◌, refl, sym, arith, S
 use Rattle.tla_core.specs.declared.fault.Place.{Place}
 use Rattle.tla_core.specs.Expr.{Expr, Exprs, constant, bound, now, next, unary, binary, equal, sub_seq, enumerated, tuple, record_of, conjunction, disjunction, implies, conditional, cases, assert, for_all, for_some, choose, image, function, except, member, not_member, subset, kind_set, booleans, sequences, power, functions, records, product, cup, cap, minus, filtered, opened, tried, no_exprs, more_exprs}
 use Rattle.tla_model.specs.Size.{nodes, nodes_each, depth, depth_each}
-use Rattle.tla_expand.specs.declared.primes.Primes.TheVariants.{Once}
-use Rattle.tla_expand.specs.Maybe.{◌>>=◌}
-use Rattle.tla_expand.specs.Nodes.{kept}
-use Rattle.tla_expand.specs.Primes.{primes}
-use Rattle.tla_expand.specs.Unchanged.{unchanged, unchanged_each}
+use Rattle.tla_scopes.specs.declared.primes.Primes.TheVariants.{Once}
+use Rattle.tla_scopes.specs.Maybe.{◌>>=◌}
+use Rattle.tla_scopes.specs.Nodes.{kept}
+use Rattle.tla_scopes.specs.Primes.{primes}
+use Rattle.tla_scopes.specs.Unchanged.{unchanged, unchanged_each}
 use Rattle.tla_expand.proofs.Keeps.{inv}
 
 abbrev IsNoLarger : Expr → Expr → Type 0

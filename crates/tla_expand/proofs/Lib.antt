@@ -1,12 +1,4 @@
-pub mod Primed
 pub mod Vectors
-pub mod Links
-pub mod Cuts
-pub mod Binds
-pub mod Steps
-pub mod Shorter
-pub mod GivenBack
-pub mod GivenWalk
 pub mod Sizes
 pub mod Made
 pub mod Lists
@@ -26,10 +18,10 @@ pub mod Keys
 pub mod Rows
 pub mod PrimesFit
 pub mod UnchangedFits
+pub mod MeaningsFit
 pub mod Fitting
 pub mod Apart
 pub mod Nameless
+pub mod Weights
+pub mod Visits
 pub mod Walking
-pub mod Hashes
-pub mod Indexed
-pub mod OwnForms

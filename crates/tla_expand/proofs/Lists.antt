@@ -10,20 +10,20 @@ use Rattle.tla_core.specs.declared.fault.Place.{Place}
 use Rattle.tla_core.specs.Expr as e
 use Rattle.tla_core.specs.Expr.{Expr, Exprs, Arms, no_exprs, more_exprs, more_arms, tuple}
 use Rattle.tla_model.specs.Size.{nodes, depth, nodes_each, depth_each, nodes_arms, depth_arms}
-use Rattle.tla_expand.specs.declared.primes.Primes.{Primes}
-use Rattle.tla_expand.specs.declared.failure.Failure.{Failure}
-use Rattle.tla_expand.specs.declared.failure.Failure.TheVariants.{NoExpansion, TooLarge, Memory}
-use Rattle.tla_expand.specs.Maybe.{◌>>=◌, each_of}
-use Rattle.tla_expand.specs.Lists.{exprs, arms_with}
-use Rattle.tla_expand.specs.Places.{place_of}
-use Rattle.tla_expand.specs.Nodes.{kept}
-use Rattle.tla_expand.specs.Primes.{primes, primes_each, primes_arms, with_primes}
-use Rattle.tla_expand.specs.Unchanged.{unchanged, unchanged_each}
-use Rattle.tla_expand.specs.Meanings.{Scope}
-use Rattle.tla_expand.specs.Expand.{expand, expand_each, expand_arms}
+use Rattle.tla_scopes.specs.declared.primes.Primes.{Primes}
+use Rattle.tla_scopes.specs.declared.failure.Failure.{Failure}
+use Rattle.tla_scopes.specs.declared.failure.Failure.TheVariants.{NoExpansion, TooLarge, Memory}
+use Rattle.tla_scopes.specs.Maybe.{◌>>=◌, each_of}
+use Rattle.tla_scopes.specs.Lists.{exprs, arms_with}
+use Rattle.tla_scopes.specs.Places.{place_of}
+use Rattle.tla_scopes.specs.Nodes.{kept}
+use Rattle.tla_scopes.specs.Primes.{primes, primes_each, primes_arms, with_primes}
+use Rattle.tla_scopes.specs.Unchanged.{unchanged, unchanged_each}
+use Rattle.tla_scopes.specs.Meanings.{Scope}
+use Rattle.tla_scopes.specs.Expand.{expand, expand_each, expand_arms}
 use Rattle.tla_expand.specs.Private.Gives.{both, sum_of, larger_of, total, highest, part_in, key_in, arm_in, kept_part, FailsBy}
-use Rattle.tla_expand.proofs.Primed as primed
-use Rattle.tla_expand.proofs.Primed.{two, two_of}
+use Rattle.tla_scopes.proofs.Primed as primed
+use Rattle.tla_scopes.proofs.Primed.{two, two_of}
 
 pub total_append : {A : Type 0} (size : A → ℕ) (xs ys : List A) → total size (xs ++ ys) ≡ total size xs + total size ys
 total_append size [] ys = omega arith
@@ -57,24 +57,24 @@ module _ {A B : Type 0} (f : A → Option B) (ts : List A) where
       → f t ≡ Some x → new ≡ es ++ x ∷ [] → so_far new (i + 1)
   part_done es new i t x h b g e n = h ∙ rw (next_is i t b g, e, n) (after (each_of f (drop (i + 1) ts)) es x)
 
-  fails_by : (size deep : B → ℕ) (s : Failure) (es : List B) (a : Option B) (o whole : Option (List B)) (room left rest : ℕ) → rest + total size es ≡ left
-      → whole ≡ ((a >>= λ x. o >>= λ xs. Some (x ∷ xs)) >>= λ xs. Some (es ++ xs)) → FailsBy size deep room rest s a → FailsBy (total size) (highest deep) room left s whole
-  fails_by size deep (NoExpansion p) es a o whole room left rest n e g = rw (e, g) refl
-  fails_by size deep TooLarge es None o whole room left rest n e g = λ xs p q r. cc
-  fails_by size deep TooLarge es (Some x) None whole room left rest n e g = λ xs p q r. cc
-  fails_by size deep TooLarge es (Some x) (Some ys) whole room left rest n e g = λ xs p q r.
+  fails_by : (size deep : B → ℕ) (s : Failure) (es : List B) (a : Option B) (o whole : Option (List B)) (depth_left nodes_left rest : ℕ) → rest + total size es ≡ nodes_left
+      → whole ≡ ((a >>= λ x. o >>= λ xs. Some (x ∷ xs)) >>= λ xs. Some (es ++ xs)) → FailsBy size deep depth_left rest s a → FailsBy (total size) (highest deep) depth_left nodes_left s whole
+  fails_by size deep (NoExpansion p) es a o whole depth_left nodes_left rest n e g = rw (e, g) refl
+  fails_by size deep TooLarge es None o whole depth_left nodes_left rest n e g = λ xs p q r. cc
+  fails_by size deep TooLarge es (Some x) None whole depth_left nodes_left rest n e g = λ xs p q r. cc
+  fails_by size deep TooLarge es (Some x) (Some ys) whole depth_left nodes_left rest n e g = λ xs p q r.
       let w : es ++ x ∷ ys ≡ xs = cc in
       let m = total_append size es (x ∷ ys) in
       let l = highest_append deep es (x ∷ ys) in
       let w1 = ap (total size) w in
       let w2 = ap (highest deep) w in
       g x refl (omega arith) (omega arith)
-  fails_by size deep Memory es a o whole room left rest n e g = tt
+  fails_by size deep Memory es a o whole depth_left nodes_left rest n e g = tt
 
-  pub part_fails : (size deep : B → ℕ) (s : Failure) (es : List B) (i : ℕ) (t : A) (room left rest : ℕ) → so_far es i → i < length ts → t ≡ get_or ts i t
-      → rest + total size es ≡ left → FailsBy size deep room rest s (f t) → FailsBy (total size) (highest deep) room left s (each_of f ts)
-  part_fails size deep s es i t room left rest h b g n q =
-      fails_by size deep s es (f t) (each_of f (drop (i + 1) ts)) (each_of f ts) room left rest n (h ∙ rw (next_is i t b g) refl) q
+  pub part_fails : (size deep : B → ℕ) (s : Failure) (es : List B) (i : ℕ) (t : A) (depth_left nodes_left rest : ℕ) → so_far es i → i < length ts → t ≡ get_or ts i t
+      → rest + total size es ≡ nodes_left → FailsBy size deep depth_left rest s (f t) → FailsBy (total size) (highest deep) depth_left nodes_left s (each_of f ts)
+  part_fails size deep s es i t depth_left nodes_left rest h b g n q =
+      fails_by size deep s es (f t) (each_of f (drop (i + 1) ts)) (each_of f ts) depth_left nodes_left rest n (h ∙ rw (next_is i t b g) refl) q
 
   pub all_done : (es : List B) (i : ℕ) → drop i ts ≡ [] → so_far es i → each_of f ts ≡ Some es
   all_done es i e h = h ∙ rw e (ap (λ (y : List B). Some y) (append-nil es))

@@ -7,30 +7,30 @@ use Rattle.tla_model.specs.Size.{nodes, depth, nodes_each, depth_each, nodes_fie
 use Rattle.tla_value.specs.Tree as value
 use Rattle.tla_tree.specs.declared.tree.Constant.{Constant}
 use Rattle.tla_tree.specs.declared.tree.Constant.TheVariants.{True, False, Boolean, String}
-use Rattle.tla_expand.specs.declared.primes.Primes.{Primes}
-use Rattle.tla_expand.specs.declared.nodes.Leaf.{Leaf}
-use Rattle.tla_expand.specs.declared.nodes.Leaf.TheVariants as leaves
-use Rattle.tla_expand.specs.declared.nodes.UnaryNode.{UnaryNode}
-use Rattle.tla_expand.specs.declared.nodes.UnaryNode.TheVariants as ones
-use Rattle.tla_expand.specs.declared.nodes.BinaryNode.{BinaryNode}
-use Rattle.tla_expand.specs.declared.nodes.BinaryNode.TheVariants as twos
-use Rattle.tla_expand.specs.declared.nodes.TernaryNode.{TernaryNode}
-use Rattle.tla_expand.specs.declared.nodes.TernaryNode.TheVariants as threes
-use Rattle.tla_expand.specs.declared.nodes.ListNode.{ListNode}
-use Rattle.tla_expand.specs.declared.nodes.ListNode.TheVariants as manies
-use Rattle.tla_expand.specs.declared.nodes.Binding.{Binding}
-use Rattle.tla_expand.specs.declared.nodes.Binding.TheVariants as bindings
-use Rattle.tla_expand.specs.declared.nodes.Gather.{Gather}
-use Rattle.tla_expand.specs.declared.nodes.Gather.TheVariants as gathers
-use Rattle.tla_expand.specs.declared.nodes.Fielded.{Fielded}
-use Rattle.tla_expand.specs.declared.nodes.Fielded.TheVariants as fieldeds
-use Rattle.tla_expand.specs.Maybe.{◌>>=◌, each_of}
-use Rattle.tla_expand.specs.Lists.{exprs, arms_with, fields_of, updates_of}
-use Rattle.tla_expand.specs.Primes.{primes, primes_each, primes_fields, primes_arms, primes_updates}
-use Rattle.tla_expand.specs.Nodes.{leaf, constant_of, one, two, three, many, binding, gather, fielded, kept}
+use Rattle.tla_scopes.specs.declared.primes.Primes.{Primes}
+use Rattle.tla_scopes.specs.declared.nodes.Leaf.{Leaf}
+use Rattle.tla_scopes.specs.declared.nodes.Leaf.TheVariants as leaves
+use Rattle.tla_scopes.specs.declared.nodes.UnaryNode.{UnaryNode}
+use Rattle.tla_scopes.specs.declared.nodes.UnaryNode.TheVariants as ones
+use Rattle.tla_scopes.specs.declared.nodes.BinaryNode.{BinaryNode}
+use Rattle.tla_scopes.specs.declared.nodes.BinaryNode.TheVariants as twos
+use Rattle.tla_scopes.specs.declared.nodes.TernaryNode.{TernaryNode}
+use Rattle.tla_scopes.specs.declared.nodes.TernaryNode.TheVariants as threes
+use Rattle.tla_scopes.specs.declared.nodes.ListNode.{ListNode}
+use Rattle.tla_scopes.specs.declared.nodes.ListNode.TheVariants as manies
+use Rattle.tla_scopes.specs.declared.nodes.Binding.{Binding}
+use Rattle.tla_scopes.specs.declared.nodes.Binding.TheVariants as bindings
+use Rattle.tla_scopes.specs.declared.nodes.Gather.{Gather}
+use Rattle.tla_scopes.specs.declared.nodes.Gather.TheVariants as gathers
+use Rattle.tla_scopes.specs.declared.nodes.Fielded.{Fielded}
+use Rattle.tla_scopes.specs.declared.nodes.Fielded.TheVariants as fieldeds
+use Rattle.tla_scopes.specs.Maybe.{◌>>=◌, each_of}
+use Rattle.tla_scopes.specs.Lists.{exprs, arms_with, fields_of, updates_of}
+use Rattle.tla_scopes.specs.Primes.{primes, primes_each, primes_fields, primes_arms, primes_updates}
+use Rattle.tla_scopes.specs.Nodes.{leaf, constant_of, one, two, three, many, binding, gather, fielded, kept}
 use Rattle.tla_expand.specs.Private.Gives.{both, sum_of, larger_of, total, highest, field_nodes, field_depth, update_nodes, update_depth}
-use Rattle.tla_expand.specs.Primes.{with_primes}
-use Rattle.tla_expand.proofs.Primed as primed
+use Rattle.tla_scopes.specs.Primes.{with_primes}
+use Rattle.tla_scopes.proofs.Primed as primed
 use Rattle.tla_expand.proofs.Sizes.{IsLarger}
 use Rattle.tla_expand.proofs.Lists.{nodes_exprs, depth_exprs, nodes_arms_of, depth_arms_of, primes_exprs}
 use Rattle.tla_expand.proofs.NamedParts.{nodes_fields_of, depth_fields_of, nodes_updates_of, depth_updates_of}

@@ -7,17 +7,17 @@ use Rattle.tla_tree.specs.Tree as t
 use Rattle.tla_tree.specs.View.{view, field_view, key_view, update_view}
 use Rattle.tla_core.specs.Expr.{Expr, more_exprs, more_fields, more_updates}
 use Rattle.tla_model.specs.Size.{nodes_fields, depth_fields, nodes_updates, depth_updates}
-use Rattle.tla_expand.specs.declared.primes.Primes.{Primes}
-use Rattle.tla_expand.specs.declared.failure.Failure.{Failure}
-use Rattle.tla_expand.specs.declared.failure.Failure.TheVariants.{NoExpansion, TooLarge, Memory}
-use Rattle.tla_expand.specs.Maybe.{◌>>=◌, each_of}
-use Rattle.tla_expand.specs.Lists.{exprs, fields_of, updates_of}
-use Rattle.tla_expand.specs.Places.{at_name}
-use Rattle.tla_expand.specs.Primes.{primes, primes_each, primes_fields, primes_updates}
-use Rattle.tla_expand.specs.Meanings.{Scope, with_name, bound_name}
-use Rattle.tla_expand.specs.Expand.{expand, expand_fields, expand_step, expand_path, expand_updates}
+use Rattle.tla_scopes.specs.declared.primes.Primes.{Primes}
+use Rattle.tla_scopes.specs.declared.failure.Failure.{Failure}
+use Rattle.tla_scopes.specs.declared.failure.Failure.TheVariants.{NoExpansion, TooLarge, Memory}
+use Rattle.tla_scopes.specs.Maybe.{◌>>=◌, each_of}
+use Rattle.tla_scopes.specs.Lists.{exprs, fields_of, updates_of}
+use Rattle.tla_scopes.specs.Places.{at_name}
+use Rattle.tla_scopes.specs.Primes.{primes, primes_each, primes_fields, primes_updates}
+use Rattle.tla_scopes.specs.Meanings.{Scope, with_name, bound_name}
+use Rattle.tla_scopes.specs.Expand.{expand, expand_fields, expand_step, expand_path, expand_updates}
 use Rattle.tla_expand.specs.Private.Gives.{both, total, highest, field_nodes, field_depth, update_nodes, update_depth, part_in, field_in, step_in, value_in, update_in, FailsBy, Fails}
-use Rattle.tla_expand.proofs.Primed as primed
+use Rattle.tla_scopes.proofs.Primed as primed
 use Rattle.tla_expand.proofs.Lists.{nodes_exprs, depth_exprs}
 
 fields_regroup : (n : List ℕ) (a : Option Expr) (o : Option (List (List ℕ × Expr)))
@@ -78,12 +78,12 @@ depth_updates_of (u ∷ us) = omega (arith, depth_exprs u.0, depth_updates_of us
 pub field_some : (k : Primes) (σ : Scope) (d : ℕ) (f : Field) (x : Expr) (n : List ℕ) → part_in k σ d f.value ≡ Some x → n ≡ f.name.word → field_in k σ d f ≡ Some (n, x)
 field_some k σ d f x n h e = rw (h, e) refl
 
-pub field_fails : (s : Failure) (o : Option Expr) (n : List ℕ) (room left : ℕ) → Fails room left s o → FailsBy field_nodes field_depth room left s (o >>= λ x. Some (n, x))
-field_fails (NoExpansion p) o n room left h = rw h refl
-field_fails TooLarge None n room left h = λ x q a b. cc
-field_fails TooLarge (Some u) n room left h = λ x q a b.
+pub field_fails : (s : Failure) (o : Option Expr) (n : List ℕ) (depth_left nodes_left : ℕ) → Fails depth_left nodes_left s o → FailsBy field_nodes field_depth depth_left nodes_left s (o >>= λ x. Some (n, x))
+field_fails (NoExpansion p) o n depth_left nodes_left h = rw h refl
+field_fails TooLarge None n depth_left nodes_left h = λ x q a b. cc
+field_fails TooLarge (Some u) n depth_left nodes_left h = λ x q a b.
     let w : (n, u) ≡ x = cc in
     let w0 = ap field_nodes w in
     let w1 = ap field_depth w in
     h u refl (omega arith) (omega arith)
-field_fails Memory o n room left h = tt
+field_fails Memory o n depth_left nodes_left h = tt

@@ -11,44 +11,44 @@ use Rattle.tla_tree.specs.Tree as t
 use Rattle.tla_tree.specs.Tree.{trees, binders}
 use Rattle.tla_tree.specs.View.{view, pattern_view, group_view, choice_view, field_view, update_view}
 use Rattle.tla_expand.specs.declared.cover.Piece.TheVariants.{Other}
-use Rattle.tla_expand.specs.declared.primes.Primes.{Primes}
-use Rattle.tla_expand.specs.declared.primes.Primes.TheVariants.{Never, Once, Twice}
-use Rattle.tla_expand.specs.declared.nodes.Headed.TheVariants as headed
-use Rattle.tla_expand.specs.declared.nodes.Binders.TheVariants as under
+use Rattle.tla_scopes.specs.declared.primes.Primes.{Primes}
+use Rattle.tla_scopes.specs.declared.primes.Primes.TheVariants.{Never, Once, Twice}
+use Rattle.tla_scopes.specs.declared.nodes.Headed.TheVariants as headed
+use Rattle.tla_scopes.specs.declared.nodes.Binders.TheVariants as under
 use Rattle.tla_tree.specs.declared.tree.Step.TheVariants as steps
-use Rattle.tla_expand.specs.declared.nodes.Form.{Form}
-use Rattle.tla_expand.specs.declared.nodes.Form.TheVariants as form
-use Rattle.tla_expand.specs.declared.nodes.Leaf.{Leaf}
-use Rattle.tla_expand.specs.declared.nodes.Leaf.TheVariants as leaves
-use Rattle.tla_expand.specs.declared.nodes.UnaryNode.{UnaryNode}
-use Rattle.tla_expand.specs.declared.nodes.UnaryNode.TheVariants as ones
-use Rattle.tla_expand.specs.declared.nodes.BinaryNode.{BinaryNode}
-use Rattle.tla_expand.specs.declared.nodes.BinaryNode.TheVariants as twos
-use Rattle.tla_expand.specs.declared.nodes.TernaryNode.{TernaryNode}
-use Rattle.tla_expand.specs.declared.nodes.TernaryNode.TheVariants as threes
-use Rattle.tla_expand.specs.declared.nodes.ListNode.{ListNode}
-use Rattle.tla_expand.specs.declared.nodes.ListNode.TheVariants as manies
-use Rattle.tla_expand.specs.declared.nodes.Binding.{Binding}
-use Rattle.tla_expand.specs.declared.nodes.Binding.TheVariants as bindings
-use Rattle.tla_expand.specs.declared.nodes.Gather.{Gather}
-use Rattle.tla_expand.specs.declared.nodes.Gather.TheVariants as gathers
-use Rattle.tla_expand.specs.declared.nodes.Fielded.{Fielded}
-use Rattle.tla_expand.specs.declared.nodes.Fielded.TheVariants as fieldeds
-use Rattle.tla_expand.specs.Maybe.{◌>>=◌, each_of}
-use Rattle.tla_expand.specs.Primes.{primes, primed_now, settled_primes}
+use Rattle.tla_scopes.specs.declared.nodes.Form.{Form}
+use Rattle.tla_scopes.specs.declared.nodes.Form.TheVariants as form
+use Rattle.tla_scopes.specs.declared.nodes.Leaf.{Leaf}
+use Rattle.tla_scopes.specs.declared.nodes.Leaf.TheVariants as leaves
+use Rattle.tla_scopes.specs.declared.nodes.UnaryNode.{UnaryNode}
+use Rattle.tla_scopes.specs.declared.nodes.UnaryNode.TheVariants as ones
+use Rattle.tla_scopes.specs.declared.nodes.BinaryNode.{BinaryNode}
+use Rattle.tla_scopes.specs.declared.nodes.BinaryNode.TheVariants as twos
+use Rattle.tla_scopes.specs.declared.nodes.TernaryNode.{TernaryNode}
+use Rattle.tla_scopes.specs.declared.nodes.TernaryNode.TheVariants as threes
+use Rattle.tla_scopes.specs.declared.nodes.ListNode.{ListNode}
+use Rattle.tla_scopes.specs.declared.nodes.ListNode.TheVariants as manies
+use Rattle.tla_scopes.specs.declared.nodes.Binding.{Binding}
+use Rattle.tla_scopes.specs.declared.nodes.Binding.TheVariants as bindings
+use Rattle.tla_scopes.specs.declared.nodes.Gather.{Gather}
+use Rattle.tla_scopes.specs.declared.nodes.Gather.TheVariants as gathers
+use Rattle.tla_scopes.specs.declared.nodes.Fielded.{Fielded}
+use Rattle.tla_scopes.specs.declared.nodes.Fielded.TheVariants as fieldeds
+use Rattle.tla_scopes.specs.Maybe.{◌>>=◌, each_of}
+use Rattle.tla_scopes.specs.Primes.{primes, primed_now, settled_primes}
 use Rattle.tla_expand.specs.Covers.{is_names}
-use Rattle.tla_expand.specs.Lists.{exprs, arms_with, fields_of, updates_of}
-use Rattle.tla_expand.specs.Nodes.{leaf, constant_of, one, two, three, many, binding, gather, fielded, kept}
-use Rattle.tla_expand.specs.Unchanged.{unchanged, unchanged_each, changed}
-use Rattle.tla_expand.specs.Meanings.{Scope, Argument}
+use Rattle.tla_scopes.specs.Lists.{exprs, arms_with, fields_of, updates_of}
+use Rattle.tla_scopes.specs.Nodes.{leaf, constant_of, one, two, three, many, binding, gather, fielded, kept}
+use Rattle.tla_scopes.specs.Unchanged.{unchanged, unchanged_each, changed}
+use Rattle.tla_scopes.specs.Meanings.{Scope, Argument}
 use Rattle.tla_core.specs.Patterns.{items_in}
-use Rattle.tla_expand.specs.Bound.{Bind, bind_entry, under as under_element, nested, last_or, set_for, openings, with_elements, with_items, under_openings}
-use Rattle.tla_expand.specs.Expand.{expand, expand_each, expand_key, expand_arms, expand_fields, expand_updates, binds_of}
-use Rattle.tla_expand.specs.Scopes.{arguments_in}
-use Rattle.tla_expand.specs.Private.Forms.{form_in}
+use Rattle.tla_scopes.specs.Bound.{Bind, bind_entry, under as under_element, nested, last_or, set_for, openings, with_elements, with_items, under_openings}
+use Rattle.tla_scopes.specs.Expand.{expand, expand_each, expand_key, expand_arms, expand_fields, expand_updates, binds_of}
+use Rattle.tla_scopes.specs.Scopes.{arguments_in}
+use Rattle.tla_scopes.specs.Forms.{form_in}
 use Rattle.tla_expand.specs.Private.Gives.{both, is_tuple, part_in, key_in, arm_in, field_in, update_in}
 use Rattle.tla_expand.specs.Private.Walks.{IsNoTuple, piece_of, piece_of_many, piece_of_variable}
-use Rattle.tla_expand.specs.Primes.{with_primes}
+use Rattle.tla_scopes.specs.Primes.{with_primes}
 use Rattle.tla_expand.proofs.Kept.{unchanged_plain, kept_settled}
 use Rattle.tla_expand.proofs.Made.{leaf_shown, one_shown, two_shown, three_shown, many_shown, cases_shown, gather_shown, fielded_shown, product_shown, except_shown, binding_shown, Triple}
 use Rattle.tla_expand.proofs.Lists.{each_in, arms_in, arms_or_in}

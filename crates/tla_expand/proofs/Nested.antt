@@ -3,15 +3,15 @@ use Rattle.std.proofs.Common.{◌≡◌, ℕ, ◌+◌, List, ◌∷◌, Option, 
 use Rattle.tla_core.specs.declared.fault.Place.{Place}
 use Rattle.tla_core.specs.Expr.{Expr}
 use Rattle.tla_model.specs.Size.{nodes, depth}
-use Rattle.tla_expand.specs.declared.failure.Failure.{Failure}
-use Rattle.tla_expand.specs.declared.primes.Primes.{Primes}
-use Rattle.tla_expand.specs.declared.nodes.Binding.{Binding}
-use Rattle.tla_expand.specs.Maybe.{◌>>=◌}
-use Rattle.tla_expand.specs.Nodes.{binding}
-use Rattle.tla_expand.specs.Meanings.{Scope, Argument}
-use Rattle.tla_expand.specs.Bound.{Bind, under, nested, last_or}
+use Rattle.tla_scopes.specs.declared.failure.Failure.{Failure}
+use Rattle.tla_scopes.specs.declared.primes.Primes.{Primes}
+use Rattle.tla_scopes.specs.declared.nodes.Binding.{Binding}
+use Rattle.tla_scopes.specs.Maybe.{◌>>=◌}
+use Rattle.tla_scopes.specs.Nodes.{binding}
+use Rattle.tla_scopes.specs.Meanings.{Scope, Argument}
+use Rattle.tla_scopes.specs.Bound.{Bind, under, nested, last_or}
 use Rattle.tla_expand.specs.Private.Gives.{both, sum_of, larger_of, FailsBy, Fails}
-use Rattle.tla_expand.specs.Primes.{with_primes}
+use Rattle.tla_scopes.specs.Primes.{with_primes}
 use Rattle.tla_expand.proofs.Sizes.{Given, second_fails, two_give, node_fails, node_gives}
 use Rattle.tla_expand.proofs.Made.{binding_larger, binding_shown}
 
@@ -27,16 +27,16 @@ module _ (f : Binding) (p : Place) (bs : List Bind) (b : Bind) (rest : List Bind
   whole : with_primes k (nested f p bs body σ d) ≡ (both (with_primes k (b.1 d)) (with_primes k inner) >>= λ (xy : Pair). Some (binding f p xy.0 xy.1))
   whole = rw is (binding_shown f k p (b.1 d) inner)
 
-  fails : (s : Failure) (room left : ℕ) → FailsBy (sum_of nodes nodes) (larger_of depth depth) room left s (both (with_primes k (b.1 d)) (with_primes k inner)) → Fails (room + 1) (left + 1) s (with_primes k (nested f p bs body σ d))
-  fails s room left h =
-      rw whole (node_fails (sum_of nodes nodes) (larger_of depth depth) (λ (xy : Pair). binding f p xy.0 xy.1) s (both (with_primes k (b.1 d)) (with_primes k inner)) room left (binding_larger f p) h)
+  fails : (s : Failure) (depth_left nodes_left : ℕ) → FailsBy (sum_of nodes nodes) (larger_of depth depth) depth_left nodes_left s (both (with_primes k (b.1 d)) (with_primes k inner)) → Fails (depth_left + 1) (nodes_left + 1) s (with_primes k (nested f p bs body σ d))
+  fails s depth_left nodes_left h =
+      rw whole (node_fails (sum_of nodes nodes) (larger_of depth depth) (λ (xy : Pair). binding f p xy.0 xy.1) s (both (with_primes k (b.1 d)) (with_primes k inner)) depth_left nodes_left (binding_larger f p) h)
 
-  pub inner_fails : (s : Failure) (room left less : ℕ) (x : Expr) → with_primes k (b.1 d) ≡ Some x → less + nodes x ≡ left → Fails room less s (with_primes k inner)
-      → Fails (room + 1) (left + 1) s (with_primes k (nested f p bs body σ d))
-  inner_fails s room left less x g n h = fails s room left (second_fails nodes depth nodes depth s (with_primes k (b.1 d)) (with_primes k inner) x room left less g n h)
+  pub inner_fails : (s : Failure) (depth_left nodes_left less : ℕ) (x : Expr) → with_primes k (b.1 d) ≡ Some x → less + nodes x ≡ nodes_left → Fails depth_left less s (with_primes k inner)
+      → Fails (depth_left + 1) (nodes_left + 1) s (with_primes k (nested f p bs body σ d))
+  inner_fails s depth_left nodes_left less x g n h = fails s depth_left nodes_left (second_fails nodes depth nodes depth s (with_primes k (b.1 d)) (with_primes k inner) x depth_left nodes_left less g n h)
 
-  pub nested_gives : (room left less last : ℕ) (x y c : Expr) → Given (with_primes k (b.1 d)) x less left room → Given (with_primes k inner) y last less room → c ≡ binding f p x y
-      → Given (with_primes k (nested f p bs body σ d)) c last (left + 1) (room + 1)
-  nested_gives room left less last x y c g h e =
-      rw whole (node_gives (sum_of nodes nodes) (larger_of depth depth) (λ (xy : Pair). binding f p xy.0 xy.1) (both (with_primes k (b.1 d)) (with_primes k inner)) (x, y) c room left last (binding_larger f p)
-      (two_give nodes depth nodes depth (with_primes k (b.1 d)) (with_primes k inner) x y room left less last g h) e)
+  pub nested_gives : (depth_left nodes_left less last : ℕ) (x y c : Expr) → Given (with_primes k (b.1 d)) x less nodes_left depth_left → Given (with_primes k inner) y last less depth_left → c ≡ binding f p x y
+      → Given (with_primes k (nested f p bs body σ d)) c last (nodes_left + 1) (depth_left + 1)
+  nested_gives depth_left nodes_left less last x y c g h e =
+      rw whole (node_gives (sum_of nodes nodes) (larger_of depth depth) (λ (xy : Pair). binding f p xy.0 xy.1) (both (with_primes k (b.1 d)) (with_primes k inner)) (x, y) c depth_left nodes_left last (binding_larger f p)
+      (two_give nodes depth nodes depth (with_primes k (b.1 d)) (with_primes k inner) x y depth_left nodes_left less last g h) e)

@@ -11,43 +11,43 @@ use Rattle.tla_tree.specs.declared.tree.Constant.TheVariants.{True, False, Boole
 use Rattle.tla_tree.specs.Tree as t
 use Rattle.tla_tree.specs.Tree.{trees, binders}
 use Rattle.tla_tree.specs.View.{view, pattern_view, group_view, choice_view, field_view, update_view}
-use Rattle.tla_expand.specs.declared.failure.Failure.{Failure}
-use Rattle.tla_expand.specs.declared.primes.Primes.{Primes}
-use Rattle.tla_expand.specs.declared.primes.Primes.TheVariants.{Never, Once, Twice}
-use Rattle.tla_expand.specs.declared.nodes.Headed.TheVariants as headed
-use Rattle.tla_expand.specs.declared.nodes.Binders.TheVariants as under
+use Rattle.tla_scopes.specs.declared.failure.Failure.{Failure}
+use Rattle.tla_scopes.specs.declared.primes.Primes.{Primes}
+use Rattle.tla_scopes.specs.declared.primes.Primes.TheVariants.{Never, Once, Twice}
+use Rattle.tla_scopes.specs.declared.nodes.Headed.TheVariants as headed
+use Rattle.tla_scopes.specs.declared.nodes.Binders.TheVariants as under
 use Rattle.tla_tree.specs.declared.tree.Step.TheVariants as steps
-use Rattle.tla_expand.specs.declared.nodes.Form.{Form}
-use Rattle.tla_expand.specs.declared.nodes.Form.TheVariants as form
-use Rattle.tla_expand.specs.declared.nodes.Leaf.{Leaf}
-use Rattle.tla_expand.specs.declared.nodes.Leaf.TheVariants as leaves
-use Rattle.tla_expand.specs.declared.nodes.UnaryNode.{UnaryNode}
-use Rattle.tla_expand.specs.declared.nodes.UnaryNode.TheVariants as ones
-use Rattle.tla_expand.specs.declared.nodes.BinaryNode.{BinaryNode}
-use Rattle.tla_expand.specs.declared.nodes.BinaryNode.TheVariants as twos
-use Rattle.tla_expand.specs.declared.nodes.TernaryNode.{TernaryNode}
-use Rattle.tla_expand.specs.declared.nodes.TernaryNode.TheVariants as threes
-use Rattle.tla_expand.specs.declared.nodes.ListNode.{ListNode}
-use Rattle.tla_expand.specs.declared.nodes.ListNode.TheVariants as manies
-use Rattle.tla_expand.specs.declared.nodes.Binding.{Binding}
-use Rattle.tla_expand.specs.declared.nodes.Binding.TheVariants as bindings
-use Rattle.tla_expand.specs.declared.nodes.Gather.{Gather}
-use Rattle.tla_expand.specs.declared.nodes.Gather.TheVariants as gathers
-use Rattle.tla_expand.specs.declared.nodes.Fielded.{Fielded}
-use Rattle.tla_expand.specs.declared.nodes.Fielded.TheVariants as fieldeds
-use Rattle.tla_expand.specs.Maybe.{◌>>=◌, each_of}
-use Rattle.tla_expand.specs.Primes.{primes, primed_now, settled_primes, one_more}
-use Rattle.tla_expand.specs.Lists.{exprs, arms_with, fields_of, updates_of}
-use Rattle.tla_expand.specs.Nodes.{leaf, constant_of, one, two, three, many, binding, gather, fielded, kept}
-use Rattle.tla_expand.specs.Unchanged.{unchanged, unchanged_each, changed}
-use Rattle.tla_expand.specs.Meanings.{Scope, Argument, with_name, bound_name}
+use Rattle.tla_scopes.specs.declared.nodes.Form.{Form}
+use Rattle.tla_scopes.specs.declared.nodes.Form.TheVariants as form
+use Rattle.tla_scopes.specs.declared.nodes.Leaf.{Leaf}
+use Rattle.tla_scopes.specs.declared.nodes.Leaf.TheVariants as leaves
+use Rattle.tla_scopes.specs.declared.nodes.UnaryNode.{UnaryNode}
+use Rattle.tla_scopes.specs.declared.nodes.UnaryNode.TheVariants as ones
+use Rattle.tla_scopes.specs.declared.nodes.BinaryNode.{BinaryNode}
+use Rattle.tla_scopes.specs.declared.nodes.BinaryNode.TheVariants as twos
+use Rattle.tla_scopes.specs.declared.nodes.TernaryNode.{TernaryNode}
+use Rattle.tla_scopes.specs.declared.nodes.TernaryNode.TheVariants as threes
+use Rattle.tla_scopes.specs.declared.nodes.ListNode.{ListNode}
+use Rattle.tla_scopes.specs.declared.nodes.ListNode.TheVariants as manies
+use Rattle.tla_scopes.specs.declared.nodes.Binding.{Binding}
+use Rattle.tla_scopes.specs.declared.nodes.Binding.TheVariants as bindings
+use Rattle.tla_scopes.specs.declared.nodes.Gather.{Gather}
+use Rattle.tla_scopes.specs.declared.nodes.Gather.TheVariants as gathers
+use Rattle.tla_scopes.specs.declared.nodes.Fielded.{Fielded}
+use Rattle.tla_scopes.specs.declared.nodes.Fielded.TheVariants as fieldeds
+use Rattle.tla_scopes.specs.Maybe.{◌>>=◌, each_of}
+use Rattle.tla_scopes.specs.Primes.{primes, primed_now, settled_primes, one_more}
+use Rattle.tla_scopes.specs.Lists.{exprs, arms_with, fields_of, updates_of}
+use Rattle.tla_scopes.specs.Nodes.{leaf, constant_of, one, two, three, many, binding, gather, fielded, kept}
+use Rattle.tla_scopes.specs.Unchanged.{unchanged, unchanged_each, changed}
+use Rattle.tla_scopes.specs.Meanings.{Scope, Argument}
 use Rattle.tla_core.specs.Patterns.{items_in}
-use Rattle.tla_expand.specs.Bound.{Bind, bind_entry, under as under_element, nested, last_or, set_for, openings, with_elements, with_items, under_openings}
-use Rattle.tla_expand.specs.Expand.{expand, expand_each, expand_key, expand_arms, expand_fields, expand_updates, binds_of}
-use Rattle.tla_expand.specs.Scopes.{arguments_in}
-use Rattle.tla_expand.specs.Private.Forms.{form_in, tuple_of, tuple_parts}
+use Rattle.tla_scopes.specs.Bound.{Bind, bind_entry, under as under_element, nested, last_or, set_for, openings, with_elements, with_items, under_openings}
+use Rattle.tla_scopes.specs.Expand.{expand, expand_each, expand_key, expand_arms, expand_fields, expand_updates, binds_of}
+use Rattle.tla_scopes.specs.Scopes.{arguments_in}
+use Rattle.tla_scopes.specs.Forms.{form_in, tuple_of, tuple_parts}
 use Rattle.tla_expand.specs.Private.Gives.{is_tuple, Plain, both, total, highest, part_in, key_in, arm_in, field_in, update_in, kept_part, sum_of, larger_of, Makes, FailsBy, Fails}
-use Rattle.tla_expand.specs.Primes.{with_primes}
+use Rattle.tla_scopes.specs.Primes.{with_primes}
 use Rattle.tla_expand.proofs.Kept.{some_plain, unchanged_plain, kept_settled, kept_equal}
 use Rattle.tla_expand.proofs.Made.{leaf_shown, one_shown, two_shown, three_shown, many_shown, cases_shown, gather_shown, fielded_shown, product_shown, except_shown, binding_shown, kept_larger, two_larger, Triple}
 use Rattle.tla_expand.proofs.Lists.{each_in, arms_in, arms_or_in, kept_tuple}
@@ -249,23 +249,23 @@ tuple_kept o (form.Unchanged q a) us σ d k p h t = cc
 tuple_kept o (form.Binders q f bs a) us σ d k p h t = cc
 tuple_kept o (form.Binds q f w a b) us σ d k p h t = cc
 
-pub tuple_fails : (o : Option Expr) (fm : Form) (us : Bor (Vec syntax.Expr Global)) (σ : Scope) (d : ℕ) (k : Primes) (p : Place) (s : Failure) (room left : ℕ) → o ≡ with_primes k (form_in fm σ d) → tuple_parts fm ≡ Some us
-    → FailsBy (total nodes) (highest depth) room left s (each_of (kept_part k p σ d) us.now.items) → Fails (room + 1) (left + 1) s (o >>= unchanged p)
-tuple_fails o fm us σ d k p s room left h t g =
-    rw (tuple_kept o fm us σ d k p h t) (node_fails (total nodes) (highest depth) (λ xs. kept p (exprs xs)) s (each_of (kept_part k p σ d) us.now.items) room left (kept_larger p) g)
+pub tuple_fails : (o : Option Expr) (fm : Form) (us : Bor (Vec syntax.Expr Global)) (σ : Scope) (d : ℕ) (k : Primes) (p : Place) (s : Failure) (depth_left nodes_left : ℕ) → o ≡ with_primes k (form_in fm σ d) → tuple_parts fm ≡ Some us
+    → FailsBy (total nodes) (highest depth) depth_left nodes_left s (each_of (kept_part k p σ d) us.now.items) → Fails (depth_left + 1) (nodes_left + 1) s (o >>= unchanged p)
+tuple_fails o fm us σ d k p s depth_left nodes_left h t g =
+    rw (tuple_kept o fm us σ d k p h t) (node_fails (total nodes) (highest depth) (λ xs. kept p (exprs xs)) s (each_of (kept_part k p σ d) us.now.items) depth_left nodes_left (kept_larger p) g)
 
-pub tuple_gives : (o : Option Expr) (fm : Form) (us : Bor (Vec syntax.Expr Global)) (σ : Scope) (d : ℕ) (k : Primes) (p : Place) (xs : List Expr) (c : Expr) (rest room left : ℕ) → o ≡ with_primes k (form_in fm σ d) → tuple_parts fm ≡ Some us
-    → Makes (total nodes) (highest depth) room left rest xs (each_of (kept_part k p σ d) us.now.items) → c ≡ kept p (exprs xs) → Given (o >>= unchanged p) c rest (left + 1) (room + 1)
-tuple_gives o fm us σ d k p xs c rest room left h t g e =
-    rw (tuple_kept o fm us σ d k p h t) (node_gives (total nodes) (highest depth) (λ ys. kept p (exprs ys)) (each_of (kept_part k p σ d) us.now.items) xs c room left rest (kept_larger p) g e)
+pub tuple_gives : (o : Option Expr) (fm : Form) (us : Bor (Vec syntax.Expr Global)) (σ : Scope) (d : ℕ) (k : Primes) (p : Place) (xs : List Expr) (c : Expr) (rest depth_left nodes_left : ℕ) → o ≡ with_primes k (form_in fm σ d) → tuple_parts fm ≡ Some us
+    → Makes (total nodes) (highest depth) depth_left nodes_left rest xs (each_of (kept_part k p σ d) us.now.items) → c ≡ kept p (exprs xs) → Given (o >>= unchanged p) c rest (nodes_left + 1) (depth_left + 1)
+tuple_gives o fm us σ d k p xs c rest depth_left nodes_left h t g e =
+    rw (tuple_kept o fm us σ d k p h t) (node_gives (total nodes) (highest depth) (λ ys. kept p (exprs ys)) (each_of (kept_part k p σ d) us.now.items) xs c depth_left nodes_left rest (kept_larger p) g e)
 
 -- an equation
-pub equal_fails : (o : Option Expr) (k m : Primes) (p : Place) (s : Failure) (room left : ℕ) → Plain (with_primes k o) → m ≡ one_more k
-    → FailsBy (sum_of nodes nodes) (larger_of depth depth) room left s (both (with_primes m o) (with_primes k o)) → Fails (room + 1) (left + 1) s (with_primes k o >>= unchanged p)
-equal_fails o k m p s room left h e g =
-    rw (kept_equal k o p h, sym e) (node_fails (sum_of nodes nodes) (larger_of depth depth) (λ (xy : Expr × Expr). equal p xy.0 xy.1) s (both (with_primes m o) (with_primes k o)) room left (two_larger twos.Equal p) g)
+pub equal_fails : (o : Option Expr) (k m : Primes) (p : Place) (s : Failure) (depth_left nodes_left : ℕ) → Plain (with_primes k o) → m ≡ one_more k
+    → FailsBy (sum_of nodes nodes) (larger_of depth depth) depth_left nodes_left s (both (with_primes m o) (with_primes k o)) → Fails (depth_left + 1) (nodes_left + 1) s (with_primes k o >>= unchanged p)
+equal_fails o k m p s depth_left nodes_left h e g =
+    rw (kept_equal k o p h, sym e) (node_fails (sum_of nodes nodes) (larger_of depth depth) (λ (xy : Expr × Expr). equal p xy.0 xy.1) s (both (with_primes m o) (with_primes k o)) depth_left nodes_left (two_larger twos.Equal p) g)
 
-pub equal_gives : (o : Option Expr) (k m : Primes) (p : Place) (x : Expr × Expr) (z : Expr) (rest room left : ℕ) → Plain (with_primes k o) → m ≡ one_more k
-    → Makes (sum_of nodes nodes) (larger_of depth depth) room left rest x (both (with_primes m o) (with_primes k o)) → z ≡ equal p x.0 x.1 → Given (with_primes k o >>= unchanged p) z rest (left + 1) (room + 1)
-equal_gives o k m p x z rest room left h e g q =
-    rw (kept_equal k o p h, sym e) (node_gives (sum_of nodes nodes) (larger_of depth depth) (λ (xy : Expr × Expr). equal p xy.0 xy.1) (both (with_primes m o) (with_primes k o)) x z room left rest (two_larger twos.Equal p) g q)
+pub equal_gives : (o : Option Expr) (k m : Primes) (p : Place) (x : Expr × Expr) (z : Expr) (rest depth_left nodes_left : ℕ) → Plain (with_primes k o) → m ≡ one_more k
+    → Makes (sum_of nodes nodes) (larger_of depth depth) depth_left nodes_left rest x (both (with_primes m o) (with_primes k o)) → z ≡ equal p x.0 x.1 → Given (with_primes k o >>= unchanged p) z rest (nodes_left + 1) (depth_left + 1)
+equal_gives o k m p x z rest depth_left nodes_left h e g q =
+    rw (kept_equal k o p h, sym e) (node_gives (sum_of nodes nodes) (larger_of depth depth) (λ (xy : Expr × Expr). equal p xy.0 xy.1) (both (with_primes m o) (with_primes k o)) x z depth_left nodes_left rest (two_larger twos.Equal p) g q)

@@ -5,11 +5,11 @@ use Rattle.tla_core.specs.declared.fault.Place.{Place}
 use Rattle.tla_core.specs.Patterns.{items_in}
 use Rattle.tla_core.specs.Expr.{Expr, Exprs, Fields, Arms, Updates, constant, bound, now, next, unary, binary, equal, sub_seq, enumerated, tuple, record_of, conjunction, disjunction, implies, conditional, cases, assert, for_all, for_some, choose, image, function, except, member, not_member, subset, kind_set, booleans, sequences, power, functions, records, product, cup, cap, minus, filtered, opened, tried, no_exprs, more_exprs, no_fields, more_fields, no_arms, other, more_arms, no_updates, more_updates}
 use Rattle.tla_core.specs.Fits.{fits, fits_all, fits_fields, fits_arms, fits_updates, count}
-use Rattle.tla_expand.specs.declared.primes.Primes.{Primes}
-use Rattle.tla_expand.specs.declared.primes.Primes.TheVariants.{Never, Once, Twice}
+use Rattle.tla_scopes.specs.declared.primes.Primes.{Primes}
+use Rattle.tla_scopes.specs.declared.primes.Primes.TheVariants.{Never, Once, Twice}
 use Rattle.tla_expand.specs.Fits.{Stays}
-use Rattle.tla_expand.specs.Maybe.{◌>>=◌}
-use Rattle.tla_expand.specs.Primes.{primes, primes_each, primes_fields, primes_arms, primes_updates, primed_now, primed_next}
+use Rattle.tla_scopes.specs.Maybe.{◌>>=◌}
+use Rattle.tla_scopes.specs.Primes.{primes, primes_each, primes_fields, primes_arms, primes_updates, primed_now, primed_next}
 
 -- what a step of the expansion had, and what it made of it
 pub inv : {A B : Type 0} (o : Option A) (k : A → Option B) (y : B) → (o >>= k) ≡ Some y → (x : A) × (o ≡ Some x) × (k x ≡ Some y)

@@ -3,10 +3,10 @@ use Rattle.std.proofs.Common.{◌≡◌, ℕ, refl, sym, Some}
 use Rattle.tla_core.specs.declared.fault.Place.{Place}
 use Rattle.tla_core.specs.Expr.{Expr, Exprs, Fields, Arms, Updates, constant, bound, now, next, unary, binary, equal, sub_seq, enumerated, tuple, record_of, conjunction, disjunction, implies, conditional, cases, assert, for_all, for_some, choose, image, function, except, member, not_member, subset, kind_set, booleans, sequences, power, functions, records, product, cup, cap, minus, filtered, opened, tried, no_exprs, more_exprs, no_fields, more_fields, no_arms, other, more_arms, no_updates, more_updates}
 use Rattle.tla_model.specs.Size.{nodes, nodes_each, nodes_fields, nodes_arms, nodes_updates, depth, depth_each, depth_fields, depth_arms, depth_updates}
-use Rattle.tla_expand.specs.declared.primes.Primes.{Primes}
-use Rattle.tla_expand.specs.declared.primes.Primes.TheVariants.{Never, Once, Twice}
-use Rattle.tla_expand.specs.Maybe.{◌>>=◌}
-use Rattle.tla_expand.specs.Primes.{primes, primes_each, primes_fields, primes_arms, primes_updates, primed_now, primed_next}
+use Rattle.tla_scopes.specs.declared.primes.Primes.{Primes}
+use Rattle.tla_scopes.specs.declared.primes.Primes.TheVariants.{Never, Once, Twice}
+use Rattle.tla_scopes.specs.Maybe.{◌>>=◌}
+use Rattle.tla_scopes.specs.Primes.{primes, primes_each, primes_fields, primes_arms, primes_updates, primed_now, primed_next}
 use Rattle.tla_expand.specs.Private.Gives.{is_tuple}
 use Rattle.tla_expand.proofs.Keeps.{inv}
 

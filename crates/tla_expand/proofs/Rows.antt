@@ -12,9 +12,9 @@ use Rattle.tla_tree.specs.declared.tree.Brackets.TheVariants as brackets
 use Rattle.tla_tree.specs.declared.tree.Quantifier.TheVariants as quantifier
 use Rattle.tla_tree.specs.Tree.{Tree, Trees, none, more, unbound, undefined, defined, DefinesOperator, Name, Number, Call, Prime, Listing, Unary, Binary, Quantified, Let}
 use Rattle.tla_tree.specs.Tree as t
-use Rattle.tla_expand.specs.Places as names
-use Rattle.tla_expand.specs.Meanings.{standard, with_name, variable}
-use Rattle.tla_expand.specs.Expand.{expand}
+use Rattle.tla_scopes.specs.Places as names
+use Rattle.tla_scopes.specs.Meanings.{standard, with_name, variable}
+use Rattle.tla_scopes.specs.Expand.{expand}
 
 abbrev at : text.Place
 at = record { line = 1; column = 1 }

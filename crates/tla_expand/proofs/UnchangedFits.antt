@@ -3,11 +3,11 @@ use Rattle.std.proofs.Common.{◌≡◌, ℕ, ◌&&◌, Bool, true, false, refl,
 use Rattle.tla_core.specs.declared.fault.Place.{Place}
 use Rattle.tla_core.specs.Expr.{Expr, Exprs, constant, bound, now, next, unary, binary, equal, sub_seq, enumerated, tuple, record_of, conjunction, disjunction, implies, conditional, cases, assert, for_all, for_some, choose, image, function, except, member, not_member, subset, kind_set, booleans, sequences, power, functions, records, product, cup, cap, minus, filtered, opened, tried, no_exprs, more_exprs}
 use Rattle.tla_core.specs.Fits.{fits, fits_all}
-use Rattle.tla_expand.specs.declared.primes.Primes.TheVariants.{Once}
-use Rattle.tla_expand.specs.Maybe.{◌>>=◌}
-use Rattle.tla_expand.specs.Nodes.{kept}
-use Rattle.tla_expand.specs.Primes.{primes}
-use Rattle.tla_expand.specs.Unchanged.{unchanged, unchanged_each}
+use Rattle.tla_scopes.specs.declared.primes.Primes.TheVariants.{Once}
+use Rattle.tla_scopes.specs.Maybe.{◌>>=◌}
+use Rattle.tla_scopes.specs.Nodes.{kept}
+use Rattle.tla_scopes.specs.Primes.{primes}
+use Rattle.tla_scopes.specs.Unchanged.{unchanged, unchanged_each}
 use Rattle.tla_expand.proofs.PrimesFit.{inv, primes_fit}
 
 and_same : (x : Bool) → (x && x) ≡ x

@@ -1,6 +1,6 @@
 -- Nodes of lists in memory, and those that they stand for.
 use Rattle.std.proofs.Common.{rules, ◌≡◌, ◌<◌, ℕ, List, [], ◌∷◌, length, arith, map, refl, ap, sym, ◌∙◌, Vec, Box, Global, Some, None}
-use Rattle.tla_expand.specs.Nodes.{kept}
+use Rattle.tla_scopes.specs.Nodes.{kept}
 use Rattle.tla_core.specs.declared.fault.Place.{Place}
 use Rattle.tla_core.specs.declared.expression.Core.{Core, Row_of-Core, end_of-Core, more_of-Core, items-the_row-Core, Row_of-Core-Cases-1-2, end_of-Core-Cases-1-2, more_of-Core-Cases-1-2, items-the_row-Core-Cases-1-2, Row_of-Core-Record-1-2, end_of-Core-Record-1-2, more_of-Core-Record-1-2, items-the_row-Core-Record-1-2, Row_of-Core-Except-2-3, end_of-Core-Except-2-3, more_of-Core-Except-2-3, items-the_row-Core-Except-2-3, items_shown-the_row-Core-0}
 use Rattle.tla_core.specs.declared.expression.Core.TheViews as views
@@ -8,7 +8,7 @@ use Rattle.tla_core.specs.declared.expression.Core.TheViews.{the_lemmas}
 use Rattle.tla_core.specs.Expr.{Arms, conjunction, disjunction, enumerated, tuple, product, image, function, record_of, records, except, cases, more_exprs, more_fields, more_updates, no_arms, other, more_arms}
 use Rattle.tla_core.specs.ExprOf.{expr_of, exprs_of, arms_of, exprs_of_arm}
 use Rattle.tla_core.specs.ExprOf.{fields_of as core_fields, updates_of as core_updates}
-use Rattle.tla_expand.specs.Lists.{exprs, arms_with, fields_of, updates_of, named_part, changed_part}
+use Rattle.tla_scopes.specs.Lists.{exprs, arms_with, fields_of, updates_of, named_part, changed_part}
 use mathlib.Core.Former.{Count}
 
 exprs_row : (n : Count) (row : Row_of-Core n) → exprs_of row ≡ exprs (map expr_of (items-the_row-Core n row))

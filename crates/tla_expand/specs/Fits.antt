@@ -3,10 +3,10 @@ use Rattle.std.specs.Prelude.{◌≡◌, ◌≤◌, ℕ, Bool, true, List, [], �
 use Rattle.tla_core.specs.declared.fault.Place.{Place}
 use Rattle.tla_core.specs.Expr.{Expr}
 use Rattle.tla_core.specs.Fits.{fits}
-use Rattle.tla_expand.specs.declared.primes.Primes.{Primes}
-use Rattle.tla_expand.specs.declared.primes.Primes.TheVariants.{Never, Once, Twice}
-use Rattle.tla_expand.specs.Places as names
-use Rattle.tla_expand.specs.Meanings.{Argument, Meaning, Scope}
+use Rattle.tla_scopes.specs.declared.primes.Primes.{Primes}
+use Rattle.tla_scopes.specs.declared.primes.Primes.TheVariants.{Never, Once, Twice}
+use Rattle.tla_scopes.specs.Places as names
+use Rattle.tla_scopes.specs.Meanings.{Argument, Meaning, Scope}
 
 -- under n bound names, or more
 abbrev pub FitsArgument : ℕ → ℕ → Argument → Type 0

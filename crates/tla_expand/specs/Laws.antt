@@ -3,11 +3,11 @@ use Rattle.std.specs.Prelude.{◌≡◌, ℕ, Bool, true, Some}
 use Rattle.tla_core.specs.Expr.{Expr}
 use Rattle.tla_core.specs.Fits.{fits}
 use Rattle.tla_tree.specs.Tree.{Tree}
-use Rattle.tla_expand.specs.declared.primes.Primes.{Primes}
-use Rattle.tla_expand.specs.Meanings.{Scope}
-use Rattle.tla_expand.specs.Expand.{expand}
+use Rattle.tla_scopes.specs.declared.primes.Primes.{Primes}
+use Rattle.tla_scopes.specs.Meanings.{Scope}
+use Rattle.tla_scopes.specs.Expand.{expand}
 use Rattle.tla_expand.specs.Fits.{FitsScope, Stays}
-use Rattle.tla_expand.specs.Primes.{primes}
+use Rattle.tla_scopes.specs.Primes.{primes}
 
 -- in a scope whose meanings name what exists, an expansion names what exists
 abbrev pub ExpansionsFit : Type 0

@@ -1,9 +1,9 @@
 -- The scope that the names known so far make, and the one that was made before it.
 use Rattle.std.specs.Prelude.{ℕ, length}
 use Rattle.tla_expand.specs.declared.scopes.Scopes.{Scopes}
-use Rattle.tla_expand.specs.Meanings.{Scope}
-use Rattle.tla_expand.specs.Listed.{listed}
-use Rattle.tla_expand.specs.Scopes.{scope_at}
+use Rattle.tla_scopes.specs.Meanings.{Scope}
+use Rattle.tla_scopes.specs.Listed.{listed}
+use Rattle.tla_scopes.specs.Scopes.{scope_at}
 
 abbrev pub scope_of : Scopes → Scope
 scope_of s = scope_at (listed s.entries) s.current

@@ -3,13 +3,13 @@
 ghost use Rattle.std.specs.Prelude.{◌≡◌, ◌++◌, ◌∷◌, [], map, IfOk, OnOk, IfErr};
 ghost use Rattle.tla_tree.specs.View.{view, pattern_view, group_view};
 ghost use Rattle.tla_tree.specs.Tree.{binders};
-ghost use Rattle.tla_expand.specs.Meanings.{Scope};
-ghost use Rattle.tla_expand.specs.Bound.{bind_each, bind_entry};
-ghost use Rattle.tla_expand.specs.Expand.{binds_of, expand};
+ghost use Rattle.tla_scopes.specs.Meanings.{Scope};
+ghost use Rattle.tla_scopes.specs.Bound.{bind_each, bind_entry};
+ghost use Rattle.tla_scopes.specs.Expand.{binds_of, expand};
 ghost use Rattle.tla_expand.specs.Private.Binders.{binds_in};
 
-use crate::failure::Failure;
 use std::alloc::Global;
+use tla_scopes::Failure;
 use tla_tree::{Binder, Expr, Pattern, Written, push};
 
 /// What an element is bound to.

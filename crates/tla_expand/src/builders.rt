@@ -3,29 +3,19 @@
 ghost use Rattle.std.specs.Prelude.{◌≡◌, ◌∷◌, IfOk, IfErr, Some, map};
 ghost use Rattle.tla_core.specs.ExprOf.{expr_of, exprs_of_arm};
 ghost use Rattle.tla_core.specs.Expr as expr;
-ghost use Rattle.tla_expand.specs.Lists.{exprs, arms_with, fields_of, updates_of, named_part, changed_part};
-ghost use Rattle.tla_expand.specs.Places as places;
-ghost use Rattle.tla_expand.specs.Nodes as nodes;
-ghost use Rattle.tla_expand.specs.Bound.{under_openings};
+ghost use Rattle.tla_scopes.specs.Lists.{exprs, arms_with, fields_of, updates_of, named_part, changed_part};
+ghost use Rattle.tla_scopes.specs.Nodes as nodes;
+ghost use Rattle.tla_scopes.specs.Bound.{under_openings};
 ghost use Rattle.tla_expand.specs.Private.Gives.{MakesLeaf};
 
-use crate::failure::Failure;
-use crate::nodes::{BinaryNode, Binding, Fielded, Gather, Leaf, ListNode, TernaryNode, UnaryNode};
 use crate::parts::{box_beside, boxed, list_of_two, with_first};
 use std::alloc::Global;
 use tla_core::{Core, Kind, Opening, Place};
+use tla_scopes::{
+    BinaryNode, Binding, Failure, Fielded, Gather, Leaf, ListNode, TernaryNode, UnaryNode,
+};
 use tla_tree::{Constant, Word};
 use tla_value::{Text, Value};
-
-/// A place of the text, as an expression keeps it.
-pub(crate) fn place_of(place: tla_lex::Place) -> Place
-    ensures { result ≡ places.place_of place }
-{
-    Place {
-        line: place.line,
-        column: place.column,
-    }
-}
 
 /// The text of a name or a string. Its bytes are UTF-8, so the only error is that memory ran out.
 pub(crate) fn text_of(alloc: Global, word: &Word) -> Result<Text, Failure>
@@ -227,7 +217,7 @@ pub(crate) fn many_core(
 }
 
 /// What UNCHANGED of a tuple is, of UNCHANGED of its parts.
-pub(crate) fn kept_core(place: Place, parts: Vec<Core>) -> Core
+pub(crate) fn unchanged_core(place: Place, parts: Vec<Core>) -> Core
     ensures { expr_of result ≡ nodes.kept place (exprs (map expr_of parts.items)) }
 {
     if parts.len() == 0 {
@@ -258,7 +248,7 @@ pub(crate) fn binding_core(
 }
 
 /// A body under elements that are opened, if any. The only error is that memory ran out.
-pub(crate) fn opened_core(
+pub(crate) fn destructure_core(
     alloc: Global,
     place: Place,
     openings: Vec<Opening>,
@@ -272,17 +262,17 @@ pub(crate) fn opened_core(
         return Ok(body);
     }
     let body = boxed(alloc, body)?;
-    Ok(opened(place, openings, body))
+    Ok(destructure(place, openings, body))
 }
 
-fn opened(place: Place, openings: Vec<Opening>, body: Box<Core>) -> Core
+fn destructure(place: Place, openings: Vec<Opening>, body: Box<Core>) -> Core
     ensures { expr_of result ≡ expr.opened place openings.items (expr_of body.value) }
 {
     Core::Destructure(place, openings, body)
 }
 
 /// A set whose elements must be sequences of `count` items. The only error is that memory ran out.
-pub(crate) fn tried_core(
+pub(crate) fn check_pattern_core(
     alloc: Global,
     place: Place,
     count: usize,

@@ -10,26 +10,24 @@ ghost use Rattle.tla_tree.specs.declared.tree.Bullet.TheVariants as bullet;
 ghost use Rattle.tla_tree.specs.declared.tree.Expr as syntax;
 ghost use Rattle.tla_tree.specs.Tree.{Junction, trees as trees_of};
 ghost use Rattle.tla_tree.specs.View.{view};
-ghost use Rattle.tla_expand.specs.Expand as expansion;
+ghost use Rattle.tla_scopes.specs.Expand as expansion;
 ghost use Rattle.tla_expand.specs.Private.Gives.{part_in, pointed, GivesMany};
-ghost use Rattle.tla_expand.specs.Maybe.{each_of};
-ghost use Rattle.tla_expand.specs.Primes.{with_primes};
-ghost use Rattle.tla_expand.specs.Scopes.{AreLinked, scope_at};
-ghost use Rattle.tla_expand.specs.Listed.{listed};
+ghost use Rattle.tla_scopes.specs.Maybe.{each_of};
+ghost use Rattle.tla_scopes.specs.Primes.{with_primes};
+ghost use Rattle.tla_scopes.specs.Scopes.{AreLinked, scope_at};
+ghost use Rattle.tla_scopes.specs.Listed.{listed};
 
-use crate::builders::{self, place_of};
-use crate::entries::Entries;
+use crate::builders;
 use crate::expand::{ExpandContext, NODES_BELOW, PATH_BELOW, expand};
 use crate::expanded::Many;
-use crate::failure::Failure;
-use crate::primes::Primes;
 use std::alloc::Global;
 use tla_core::Core;
 use tla_lex::Place;
+use tla_scopes::{Entries, Failure, Primes, place_of};
 use tla_tree::{Expr, push};
 
 /// Expressions of one scope, in a list, with at most 199,999 nodes, and at most 299 on a path.
-fn each_apart<'a>(
+fn expand_parts<'a>(
     alloc: Global,
     entries: &mut Entries<'_, 'a>,
     trees: &[&'a Expr],
@@ -43,21 +41,21 @@ fn each_apart<'a>(
         (each_of (part_in primes (scope_at (listed entries.old) scope) 0) (pointed trees.now)) }
 {
     let mut parts = Vec::new(alloc);
-    let mut left = NODES_BELOW;
+    let mut nodes_left = NODES_BELOW;
     for i in 0..trees.len() {
         let at = ExpandContext {
             scope,
             primes,
             bound: 0,
-            room: PATH_BELOW,
-            left,
+            depth_left: PATH_BELOW,
+            nodes_left,
             reported,
         };
         let part = expand(alloc, entries, trees[i], at)?;
-        left = part.left;
+        nodes_left = part.nodes_left;
         push(&mut parts, part.core)?;
     }
-    Ok(Many { parts, left })
+    Ok(Many { parts, nodes_left })
 }
 
 /// The expansion of a conjunction in a scope, with these primes, with at most 200,000 nodes, and at most 300 on a path.
@@ -101,6 +99,6 @@ pub(crate) fn conjunction<'a>(
         → IsWithinLimits e
         → ⊥) }
 {
-    let many = each_apart(alloc, entries, trees, scope, primes, reported)?;
+    let many = expand_parts(alloc, entries, trees, scope, primes, reported)?;
     Ok(builders::conjunction(place_of(place), many.parts))
 }

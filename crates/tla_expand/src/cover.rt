@@ -1,27 +1,25 @@
 //! Whether an expression is a nested tuple that covers the variables. It is examined part by part, without making the
 //! tuple, which may be large. A name's meaning is examined once.
 
-ghost use Rattle.std.specs.Prelude.{◌≡◌, ◌≤◌, ◌++◌, ◌∷◌, [], length, true, false, nat_eq, Option, IfOk, OnOk, IfErr, IfSome, IfNone, Some};
+ghost use Rattle.std.specs.Prelude.{◌≡◌, ◌≤◌, ◌<◌, ◌+◌, ◌*◌, ℕ, ◌++◌, ◌∷◌, [], length, true, false, nat_eq, Option, IfOk, OnOk, IfErr, IfSome, IfNone, Some};
 ghost use Rattle.indexmap.specs.IndexSet.{insert_key};
 ghost use Rattle.tla_core.specs.Expr as expr;
 ghost use Rattle.tla_tree.specs.View.{view};
 ghost use Rattle.tla_expand.specs.Covers as spec;
-ghost use Rattle.tla_expand.specs.Expand as expansion;
-ghost use Rattle.tla_expand.specs.Primes.{with_primes};
-ghost use Rattle.tla_expand.specs.Private.Gives.{head_gives, reduction_gives, IsWithin};
+ghost use Rattle.tla_scopes.specs.Expand as expansion;
+ghost use Rattle.tla_scopes.specs.Primes.{with_primes};
+ghost use Rattle.tla_scopes.specs.Reductions.{head_gives, reduction_gives, IsWithin};
 ghost use Rattle.tla_expand.specs.Private.Walks as walks;
-ghost use Rattle.tla_expand.specs.Private.Walks.{IsNamed, IsAmong, IsAdded, IsInside, ArePushed, IsWalkTo, IsWalk, GoesOn, HasEach};
-ghost use Rattle.tla_expand.specs.Scopes.{AreLinked, scope_at};
-ghost use Rattle.tla_expand.specs.Listed.{listed};
+ghost use Rattle.tla_expand.specs.Private.Walks.{IsNamed, IsAmong, IsAdded, IsInside, ArePushed, IsWalkTo, IsWalk, GoesOn, HasEach, EachIs, IsLeft, weight, weights};
+ghost use Rattle.tla_scopes.specs.Costs.{cost, costs_at, head_cost, IsShorter};
+ghost use Rattle.tla_scopes.specs.Scopes.{AreLinked, scope_at};
+ghost use Rattle.tla_scopes.specs.Listed.{listed};
 
-use crate::arena::position;
-use crate::entries::Entries;
-use crate::failure::Failure;
-use crate::nodes::{Form, ListNode};
-use crate::primes::Primes;
-use crate::uses::{Head, Reduction, next_reduction};
 use indexmap::IndexSet;
 use std::alloc::Global;
+use tla_scopes::{
+    Entries, Failure, Form, Head, ListNode, Primes, Reduction, next_reduction, position,
+};
 use tla_tree::{Expr, push};
 
 /// A visit that remains to be done.
@@ -30,12 +28,12 @@ pub(crate) enum Visit<'a> {
     /// To visit an expression in a scope, with these primes on it.
     Part(&'a Expr, usize, Primes),
     /// To record that an entry was visited, with these primes on it.
-    End(Gone),
+    End(PrimedEntry),
 }
 
 /// An entry, with these primes on it.
 #[derive(Clone, Copy, PartialEq, Eq, Hash)]
-pub(crate) struct Gone {
+pub(crate) struct PrimedEntry {
     pub(crate) entry: usize,
     pub(crate) primes: Primes,
 }
@@ -53,13 +51,13 @@ pub(crate) enum Piece<'a> {
 #[derive(Drop)]
 pub(crate) struct Walk<'s, 'a> {
     pub(crate) entries: Entries<'s, 'a>,
-    pub(crate) left: Vec<Visit<'a>>,
-    pub(crate) gone: IndexSet<Gone>,
-    pub(crate) met: IndexSet<usize>,
+    pub(crate) remaining: Vec<Visit<'a>>,
+    pub(crate) visited: IndexSet<PrimedEntry>,
+    pub(crate) found: IndexSet<usize>,
 }
 
 /// The entry that a name means.
-fn named(entries: &Entries<'_, '_>, tree: &Expr, scope: usize) -> Option<usize>
+fn entry_of_name(entries: &Entries<'_, '_>, tree: &Expr, scope: usize) -> Option<usize>
     requires linked { AreLinked (listed entries.now) }
     requires within { scope ≤ length (listed entries.now) }
     ensures { IfSome result (λ k. IsNamed (listed entries.now) (view tree.now) scope k) }
@@ -86,64 +84,74 @@ fn piece_of<'a>(head: Head<'a>) -> Piece<'a>
 
 /// Adds the parts of a tuple. The only error is that memory ran out.
 fn push_parts<'a>(
-    left: &mut Vec<Visit<'a>>,
+    remaining: &mut Vec<Visit<'a>>,
     items: &'a [Expr],
     scope: usize,
     primes: Primes,
 ) -> Result<(), Failure>
     ensures ok { OnOk result
-        (ArePushed left.old.items items.entry.now scope primes left.new.items) }
+        (ArePushed remaining.old.items items.entry.now scope primes remaining.new.items) }
     ensures err { IfErr result (λ f. f ≡ Failure.Memory) }
 {
     for i in 0..items.len() {
-        push(left, Visit::Part(&items[i], scope, primes))?;
+        push(remaining, Visit::Part(&items[i], scope, primes))?;
     }
     Ok(())
 }
 
 /// Records a variable. The only error is that memory ran out.
-fn meet(met: &mut IndexSet<usize>, variable: usize) -> Result<(), Failure>
-    ensures ok { OnOk result (met.new.keys ≡ insert_key nat_eq met.old.keys variable) }
+fn record_variable(found: &mut IndexSet<usize>, variable: usize) -> Result<(), Failure>
+    ensures ok { OnOk result (found.new.keys ≡ insert_key nat_eq found.old.keys variable) }
     ensures err { IfErr result (λ f. f ≡ Failure.Memory) }
 {
-    met.insert(variable)?;
+    found.insert(variable)?;
     Ok(())
 }
 
 /// Records that an entry was visited. The only error is that memory ran out.
-fn go_by(gone: &mut IndexSet<Gone>, entry: Gone) -> Result<(), Failure>
-    ensures ok { OnOk result (IsAdded gone.old.keys entry gone.new.keys) }
+fn mark_visited(visited: &mut IndexSet<PrimedEntry>, entry: PrimedEntry) -> Result<(), Failure>
+    ensures ok { OnOk result (IsAdded visited.old.keys entry visited.new.keys) }
     ensures err { IfErr result (λ f. f ≡ Failure.Memory) }
 {
-    gone.insert(entry)?;
+    visited.insert(entry)?;
     Ok(())
 }
 
 /// Whether an entry was visited.
-fn was_gone(gone: &IndexSet<Gone>, entry: Gone) -> bool
-    ensures { result ≡ true → IsAmong entry gone.now.keys }
+fn is_visited(visited: &IndexSet<PrimedEntry>, entry: PrimedEntry) -> bool
+    ensures { result ≡ true → IsAmong entry visited.now.keys }
 {
-    gone.contains(&entry)
+    visited.contains(&entry)
 }
 
 /// Continues with a form. Returns whether it is a variable or a tuple. The only error is that memory ran out.
-fn go_into<'a>(walk: &mut Walk<'_, 'a>, head: Head<'a>) -> Result<bool, Failure>
+fn visit_head<'a>(walk: &mut Walk<'_, 'a>, head: Head<'a>) -> Result<bool, Failure>
     requires within { head.scope ≤ length (listed walk.old.entries) }
     ensures goes { IfOk result (λ b.
         (whole : Option expr.Expr)
-        → IsWalkTo whole (listed walk.old.entries) walk.old.left.items walk.old.gone.keys
-        walk.old.met.keys (head_gives (listed walk.old.entries) head.entry 0)
-        → GoesOn whole (listed walk.new.entries) walk.new.left.items walk.new.gone.keys
-        walk.new.met.keys b) }
+        → IsWalkTo whole (listed walk.old.entries) walk.old.remaining.items walk.old.visited.keys
+        walk.old.found.keys (head_gives (listed walk.old.entries) head.entry 0)
+        → GoesOn whole (listed walk.new.entries) walk.new.remaining.items walk.new.visited.keys
+        walk.new.found.keys b) }
+    ensures left { IfOk result (λ b.
+        (n : ℕ)
+        → head_cost (listed walk.old.entries) head.entry ≤ n
+        → IsLeft (listed walk.new.entries) walk.new.remaining.items
+        (weights (listed walk.old.entries) walk.old.remaining.items + 3 * n) b) }
     ensures err { IfErr result (λ f. f ≡ Failure.Memory) }
 {
     match piece_of(head) {
         Piece::Variable(variable) => {
-            meet(&mut walk.met, variable)?;
+            record_variable(&mut walk.found, variable)?;
             Ok(true)
         }
         Piece::Tuple(items) => {
-            push_parts(&mut walk.left, items.as_slice(), head.scope, head.primes)?;
+            push_parts(
+                &mut walk.remaining,
+                items.as_slice(),
+                head.scope,
+                head.primes,
+            )?;
             Ok(true)
         }
         Piece::Other => Ok(false),
@@ -151,27 +159,32 @@ fn go_into<'a>(walk: &mut Walk<'_, 'a>, head: Head<'a>) -> Result<bool, Failure>
 }
 
 /// Continues with a reduction. Returns whether it may lead to a part. The only error is that memory ran out.
-fn go_along<'a>(walk: &mut Walk<'_, 'a>, reduction: Reduction<'a>) -> Result<bool, Failure>
+fn visit_reduction<'a>(walk: &mut Walk<'_, 'a>, reduction: Reduction<'a>) -> Result<bool, Failure>
     requires within { IsWithin (listed walk.old.entries) reduction }
     ensures goes { IfOk result (λ b.
         (whole : Option expr.Expr)
-        → IsWalkTo whole (listed walk.old.entries) walk.old.left.items walk.old.gone.keys
-        walk.old.met.keys (reduction_gives (listed walk.old.entries) reduction.entry 0)
-        → GoesOn whole (listed walk.new.entries) walk.new.left.items walk.new.gone.keys
-        walk.new.met.keys b) }
+        → IsWalkTo whole (listed walk.old.entries) walk.old.remaining.items walk.old.visited.keys
+        walk.old.found.keys (reduction_gives (listed walk.old.entries) reduction.entry 0)
+        → GoesOn whole (listed walk.new.entries) walk.new.remaining.items walk.new.visited.keys
+        walk.new.found.keys b) }
+    ensures left { IfOk result (λ b.
+        (n : ℕ)
+        → IsShorter (listed walk.old.entries) reduction.entry n
+        → IsLeft (listed walk.new.entries) walk.new.remaining.items
+        (weights (listed walk.old.entries) walk.old.remaining.items + 3 * n) b) }
     ensures err { IfErr result (λ f. f ≡ Failure.Memory) }
 {
     match reduction {
         Reduction::Goes(tree, scope, primes) => {
-            push(&mut walk.left, Visit::Part(tree, scope, primes))?;
+            push(&mut walk.remaining, Visit::Part(tree, scope, primes))?;
             Ok(true)
         }
-        Reduction::Ends(head) => go_into(walk, head),
+        Reduction::Ends(head) => visit_head(walk, head),
     }
 }
 
 /// Reduces an expression once. Returns whether it may be a part. The only error is that memory ran out.
-fn go_from<'a>(
+fn reduce_part<'a>(
     walk: &mut Walk<'_, 'a>,
     tree: &'a Expr,
     scope: usize,
@@ -181,17 +194,22 @@ fn go_from<'a>(
     requires within { scope ≤ length (listed walk.old.entries) }
     ensures goes { IfOk result (λ b.
         (whole : Option expr.Expr)
-        → IsWalkTo whole (listed walk.old.entries) walk.old.left.items walk.old.gone.keys
-        walk.old.met.keys
+        → IsWalkTo whole (listed walk.old.entries) walk.old.remaining.items walk.old.visited.keys
+        walk.old.found.keys
         (with_primes primes
         (expansion.expand (view tree.entry.now)
         (scope_at (listed walk.old.entries) scope) 0))
-        → GoesOn whole (listed walk.new.entries) walk.new.left.items walk.new.gone.keys
-        walk.new.met.keys b) }
+        → GoesOn whole (listed walk.new.entries) walk.new.remaining.items walk.new.visited.keys
+        walk.new.found.keys b) }
+    ensures left { IfOk result (λ b.
+        EachIs (IsInside (listed walk.old.entries)) walk.old.remaining.items
+        → IsLeft (listed walk.new.entries) walk.new.remaining.items
+        (weights (listed walk.old.entries) walk.old.remaining.items
+        + 3 * cost (view tree.entry.now) (costs_at (listed walk.old.entries) scope)) b) }
     ensures err { IfErr result (λ f. f ≡ Failure.Memory) }
 {
     match next_reduction(&mut walk.entries, tree, scope, primes) {
-        Ok(reduction) => go_along(walk, reduction),
+        Ok(reduction) => visit_reduction(walk, reduction),
         Err(Failure::NoExpansion(_)) => Ok(false),
         Err(Failure::TooLarge) => Ok(false),
         Err(Failure::Memory) => Err(Failure::Memory),
@@ -199,7 +217,7 @@ fn go_from<'a>(
 }
 
 /// Visits a name of an entry. Returns whether it may be a part. The only error is that memory ran out.
-fn look_at_name<'a>(
+fn visit_name<'a>(
     walk: &mut Walk<'_, 'a>,
     tree: &'a Expr,
     scope: usize,
@@ -211,25 +229,30 @@ fn look_at_name<'a>(
     requires named { IsNamed (listed walk.old.entries) (view tree.now) scope entry }
     ensures goes { IfOk result (λ b.
         (whole : Option expr.Expr)
-        → IsWalkTo whole (listed walk.old.entries) walk.old.left.items walk.old.gone.keys
-        walk.old.met.keys
+        → IsWalkTo whole (listed walk.old.entries) walk.old.remaining.items walk.old.visited.keys
+        walk.old.found.keys
         (with_primes primes
         (expansion.expand (view tree.entry.now)
         (scope_at (listed walk.old.entries) scope) 0))
-        → GoesOn whole (listed walk.new.entries) walk.new.left.items walk.new.gone.keys
-        walk.new.met.keys b) }
+        → GoesOn whole (listed walk.new.entries) walk.new.remaining.items walk.new.visited.keys
+        walk.new.found.keys b) }
+    ensures left { IfOk result (λ b.
+        EachIs (IsInside (listed walk.old.entries)) walk.old.remaining.items
+        → IsLeft (listed walk.new.entries) walk.new.remaining.items
+        (weights (listed walk.old.entries) walk.old.remaining.items
+        + 3 * cost (view tree.entry.now) (costs_at (listed walk.old.entries) scope) + 1) b) }
     ensures err { IfErr result (λ f. f ≡ Failure.Memory) }
 {
-    let gone = Gone { entry, primes };
-    if was_gone(&walk.gone, gone) {
+    let primed = PrimedEntry { entry, primes };
+    if is_visited(&walk.visited, primed) {
         return Ok(true);
     }
-    push(&mut walk.left, Visit::End(gone))?;
-    go_from(walk, tree, scope, primes)
+    push(&mut walk.remaining, Visit::End(primed))?;
+    reduce_part(walk, tree, scope, primes)
 }
 
 /// Visits an expression. Returns whether it may be a part. The only error is that memory ran out.
-fn look_at<'a>(
+fn visit_part<'a>(
     walk: &mut Walk<'_, 'a>,
     tree: &'a Expr,
     scope: usize,
@@ -239,52 +262,64 @@ fn look_at<'a>(
     requires within { scope ≤ length (listed walk.old.entries) }
     ensures goes { IfOk result (λ b.
         (whole : Option expr.Expr)
-        → IsWalkTo whole (listed walk.old.entries) walk.old.left.items walk.old.gone.keys
-        walk.old.met.keys
+        → IsWalkTo whole (listed walk.old.entries) walk.old.remaining.items walk.old.visited.keys
+        walk.old.found.keys
         (with_primes primes
         (expansion.expand (view tree.entry.now)
         (scope_at (listed walk.old.entries) scope) 0))
-        → GoesOn whole (listed walk.new.entries) walk.new.left.items walk.new.gone.keys
-        walk.new.met.keys b) }
+        → GoesOn whole (listed walk.new.entries) walk.new.remaining.items walk.new.visited.keys
+        walk.new.found.keys b) }
+    ensures left { IfOk result (λ b.
+        EachIs (IsInside (listed walk.old.entries)) walk.old.remaining.items
+        → IsLeft (listed walk.new.entries) walk.new.remaining.items
+        (weights (listed walk.old.entries) walk.old.remaining.items
+        + 3 * cost (view tree.entry.now) (costs_at (listed walk.old.entries) scope) + 1) b) }
     ensures err { IfErr result (λ f. f ≡ Failure.Memory) }
 {
-    match named(&walk.entries, tree, scope) {
-        Some(entry) => look_at_name(walk, tree, scope, primes, entry),
-        None => go_from(walk, tree, scope, primes),
+    match entry_of_name(&walk.entries, tree, scope) {
+        Some(entry) => visit_name(walk, tree, scope, primes, entry),
+        None => reduce_part(walk, tree, scope, primes),
     }
 }
 
 /// Does a visit that was removed from the list. Returns whether all may still be parts. The only error is that memory
 /// ran out.
-fn go_on<'a>(walk: &mut Walk<'_, 'a>, left: Visit<'a>) -> Result<bool, Failure>
+fn visit_one<'a>(walk: &mut Walk<'_, 'a>, visit: Visit<'a>) -> Result<bool, Failure>
     requires linked { AreLinked (listed walk.old.entries) }
-    requires inside { IsInside (listed walk.old.entries) left }
+    requires inside { IsInside (listed walk.old.entries) visit }
     ensures goes { IfOk result (λ b.
         (whole : Option expr.Expr)
-        → IsWalk whole (listed walk.old.entries) (walk.old.left.items ++ left.entry ∷ [])
-        walk.old.gone.keys walk.old.met.keys
-        → GoesOn whole (listed walk.new.entries) walk.new.left.items walk.new.gone.keys
-        walk.new.met.keys b) }
+        → IsWalk whole (listed walk.old.entries) (walk.old.remaining.items ++ visit.entry ∷ [])
+        walk.old.visited.keys walk.old.found.keys
+        → GoesOn whole (listed walk.new.entries) walk.new.remaining.items walk.new.visited.keys
+        walk.new.found.keys b) }
+    ensures left { IfOk result (λ b.
+        EachIs (IsInside (listed walk.old.entries)) walk.old.remaining.items
+        → (n : ℕ)
+        → weights (listed walk.old.entries) walk.old.remaining.items
+        + weight (listed walk.old.entries) visit.entry
+        ≤ n + 1
+        → IsLeft (listed walk.new.entries) walk.new.remaining.items n b) }
     ensures err { IfErr result (λ f. f ≡ Failure.Memory) }
 {
-    match left {
-        Visit::Part(tree, scope, primes) => look_at(walk, tree, scope, primes),
+    match visit {
+        Visit::Part(tree, scope, primes) => visit_part(walk, tree, scope, primes),
         Visit::End(entry) => {
-            go_by(&mut walk.gone, entry)?;
+            mark_visited(&mut walk.visited, entry)?;
             Ok(true)
         }
     }
 }
 
 /// Whether each of the first `variables` variables is among these.
-fn has_each(met: &IndexSet<usize>, variables: usize) -> bool
-    ensures yes { result ≡ true → HasEach met.now.keys variables }
-    ensures no { result ≡ false → HasEach met.now.keys variables → ⊥ }
+fn has_each(found: &IndexSet<usize>, variables: usize) -> bool
+    ensures yes { result ≡ true → HasEach found.now.keys variables }
+    ensures no { result ≡ false → HasEach found.now.keys variables → ⊥ }
 {
-    let mut left = variables;
-    while left > 0 {
-        left -= 1;
-        if !met.contains(&left) {
+    let mut remaining = variables;
+    while remaining > 0 {
+        remaining -= 1;
+        if !found.contains(&remaining) {
             return false;
         }
     }
@@ -293,7 +328,7 @@ fn has_each(met: &IndexSet<usize>, variables: usize) -> bool
 
 /// Visits an expression in a scope, before any other. Returns whether it is a variable or a nested tuple of variables
 /// that covers the first `variables`. The only error is that memory ran out.
-fn go_through<'a>(
+fn visit_all<'a>(
     walk: &mut Walk<'_, 'a>,
     tree: &'a Expr,
     scope: usize,
@@ -301,9 +336,9 @@ fn go_through<'a>(
 ) -> Result<bool, Failure>
     requires linked { AreLinked (listed walk.old.entries) }
     requires within { scope ≤ length (listed walk.old.entries) }
-    requires left { walk.old.left.items ≡ [] }
-    requires gone { length walk.old.gone.keys ≡ 0 }
-    requires met { length walk.old.met.keys ≡ 0 }
+    requires remaining { walk.old.remaining.items ≡ [] }
+    requires visited { length walk.old.visited.keys ≡ 0 }
+    requires found { length walk.old.found.keys ≡ 0 }
     ensures yes { IfOk result (λ b.
         b ≡ true
         → (e : expr.Expr)
@@ -318,17 +353,16 @@ fn go_through<'a>(
         → spec.covers variables e ≡ false) }
     ensures err { IfErr result (λ f. f ≡ Failure.Memory) }
 {
-    push(&mut walk.left, Visit::Part(tree, scope, Primes::Never))?;
-    for _turn in 0..u64::MAX {
-        let Some(left) = walk.left.pop() else {
-            return Ok(has_each(&walk.met, variables));
+    push(&mut walk.remaining, Visit::Part(tree, scope, Primes::Never))?;
+    loop {
+        let Some(visit) = walk.remaining.pop() else {
+            return Ok(has_each(&walk.found, variables));
         };
-        let goes = go_on(walk, left)?;
+        let goes = visit_one(walk, visit)?;
         if !goes {
             return Ok(false);
         }
     }
-    Err(Failure::Memory)
 }
 
 /// Whether an expression in a scope is a variable or a nested tuple of variables that covers the first `variables`. The
@@ -355,14 +389,14 @@ pub(crate) fn covers<'a>(
         → spec.covers variables e ≡ false) }
     ensures err { IfErr result (λ f. f ≡ Failure.Memory) }
 {
-    let left = Vec::new(alloc);
-    let gone = IndexSet::new(alloc);
-    let met = IndexSet::new(alloc);
+    let remaining = Vec::new(alloc);
+    let visited = IndexSet::new(alloc);
+    let found = IndexSet::new(alloc);
     let mut walk = Walk {
         entries,
-        left,
-        gone,
-        met,
+        remaining,
+        visited,
+        found,
     };
-    go_through(&mut walk, tree, scope, variables)
+    visit_all(&mut walk, tree, scope, variables)
 }

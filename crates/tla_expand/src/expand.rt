@@ -7,17 +7,17 @@ ghost use Rattle.tla_core.specs.declared.fault.Place.{Place};
 ghost use Rattle.tla_core.specs.Expr as expr;
 ghost use Rattle.tla_core.specs.ExprOf.{expr_of};
 ghost use Rattle.tla_tree.specs.View.{view};
-ghost use Rattle.tla_expand.specs.Maybe.{each_of};
-ghost use Rattle.tla_expand.specs.Lists.{exprs, arms_with, fields_of};
-ghost use Rattle.tla_expand.specs.Primes.{primed_now, with_primes};
-ghost use Rattle.tla_expand.specs.Nodes as nodes;
-ghost use Rattle.tla_expand.specs.Meanings.{builtin_meaning};
-ghost use Rattle.tla_expand.specs.Expand as expansion;
-ghost use Rattle.tla_expand.specs.Scopes.{AreLinked, scope_at, arguments_in};
-ghost use Rattle.tla_expand.specs.Private.Forms.{form_in};
+ghost use Rattle.tla_scopes.specs.Maybe.{each_of};
+ghost use Rattle.tla_scopes.specs.Lists.{exprs, arms_with, fields_of};
+ghost use Rattle.tla_scopes.specs.Primes.{primed_now, with_primes};
+ghost use Rattle.tla_scopes.specs.Nodes as nodes;
+ghost use Rattle.tla_scopes.specs.Meanings.{builtin_meaning};
+ghost use Rattle.tla_scopes.specs.Expand as expansion;
+ghost use Rattle.tla_scopes.specs.Scopes.{AreLinked, scope_at, arguments_in};
+ghost use Rattle.tla_scopes.specs.Forms.{form_in};
 ghost use Rattle.tla_model.specs.Size.{IsWithinLimits};
 ghost use Rattle.tla_expand.specs.Private.Gives.{part_in, key_in, arm_in, field_in, both, made, Fails, Gives, GivesTwo, most_named};
-ghost use Rattle.tla_expand.specs.Listed.{listed};
+ghost use Rattle.tla_scopes.specs.Listed.{listed};
 
 mod binding;
 mod levels;
@@ -29,21 +29,18 @@ use crate::builders::{
     cases_core, cases_or_core, fielded_core, leaf_core, many_core, one_core, product_core,
     three_core, two_core,
 };
-use crate::entries::Entries;
 use crate::expanded::{Expanded, Pair};
-use crate::failure::Failure;
-use crate::nodes::{
-    BinaryNode, Binders, Builtin, Fielded, Form, Headed, Leaf, ListNode, TernaryNode, UnaryNode,
-};
 use crate::parts::boxed;
-use crate::primes::Primes;
-use crate::uses::find_head;
 use binding::{Under, bound_one, bound_several, gather_node};
-use levels::{node_behind, unchanged_node};
-use lists::{arms_of, each, key, named_parts};
+use levels::{node_of_head, unchanged_node};
+use lists::{arms_of, expand_all, expand_argument, named_parts};
 use std::alloc::Global;
 use tla_core::{Core, Place};
 use tla_model::{MAX_NODES, MAX_PATH};
+use tla_scopes::{
+    BinaryNode, Binders, Builtin, Entries, Failure, Fielded, Form, Headed, Leaf, ListNode, Primes,
+    TernaryNode, UnaryNode, find_head,
+};
 use tla_tree::{Arm, Expr, Field, Step};
 use unchanged::{angle_node, square_node};
 use updates::except_node;
@@ -64,9 +61,9 @@ pub(crate) struct ExpandContext {
     /// How many names are bound around it.
     pub(crate) bound: usize,
     /// How many nodes there may be on a path.
-    pub(crate) room: usize,
+    pub(crate) depth_left: usize,
     /// How many nodes there may be.
-    pub(crate) left: usize,
+    pub(crate) nodes_left: usize,
     /// Some if operands are also examined without more primes, to report the first refusal: the primes on the whole
     /// expression.
     pub(crate) reported: Option<Primes>,
@@ -79,19 +76,20 @@ impl ExpandContext {
         ensures scope { IfOk result (λ s. s.scope ≡ self.scope) }
         ensures primes { IfOk result (λ s. s.primes ≡ self.primes) }
         ensures bound { IfOk result (λ s. s.bound ≡ self.bound) }
-        ensures room { IfOk result (λ s. s.room + 1 ≡ self.room) }
-        ensures left { IfOk result (λ s. s.left + 1 ≡ self.left) }
+        ensures depth_left { IfOk result (λ s. s.depth_left + 1 ≡ self.depth_left) }
+        ensures nodes_left { IfOk result (λ s. s.nodes_left + 1 ≡ self.nodes_left) }
         ensures reported { IfOk result (λ s. s.reported ≡ self.reported) }
         ensures err { IfErr result (λ f. f ≡ Failure.TooLarge) }
         // There is no node at all within such limits.
-        ensures none { IfErr result (λ f. (o : Option expr.Expr) → Fails self.room self.left f o) }
+        ensures none { IfErr result (λ f.
+            (o : Option expr.Expr) → Fails self.depth_left self.nodes_left f o) }
     {
-        if self.room == 0 || self.left == 0 {
+        if self.depth_left == 0 || self.nodes_left == 0 {
             return Err(Failure::TooLarge);
         }
         Ok(ExpandContext {
-            room: self.room - 1,
-            left: self.left - 1,
+            depth_left: self.depth_left - 1,
+            nodes_left: self.nodes_left - 1,
             ..self
         })
     }
@@ -104,28 +102,35 @@ fn leaf_of<'a>(
     place: Place,
     node: Leaf<'a>,
     primes: Primes,
-    left: usize,
+    nodes_left: usize,
 ) -> Result<Expanded, Failure>
-    ensures { (room : ℕ)
-        → Gives (room + 1) (left + 1) result (with_primes primes (nodes.leaf node.entry place)) }
+    ensures { (depth_left : ℕ)
+        → Gives (depth_left + 1) (nodes_left + 1) result
+        (with_primes primes (nodes.leaf node.entry place)) }
 {
     let core = leaf_core(alloc, place, node)?;
-    Ok(Expanded { core, left })
+    Ok(Expanded { core, nodes_left })
 }
 
 /// A variable, under these primes.
 #[inline(never)]
-fn variable_of(place: Place, index: usize, primes: Primes, left: usize) -> Result<Expanded, Failure>
-    ensures { (room : ℕ) → Gives (room + 1) (left + 1) result (primed_now primes place index) }
+fn variable_of(
+    place: Place,
+    index: usize,
+    primes: Primes,
+    nodes_left: usize,
+) -> Result<Expanded, Failure>
+    ensures { (depth_left : ℕ)
+        → Gives (depth_left + 1) (nodes_left + 1) result (primed_now primes place index) }
 {
     match primes {
         Primes::Never => Ok(Expanded {
             core: Core::Now(place, index),
-            left,
+            nodes_left,
         }),
         Primes::Once => Ok(Expanded {
             core: Core::Next(place, index),
-            left,
+            nodes_left,
         }),
         Primes::Twice => Err(Failure::NoExpansion(place)),
     }
@@ -141,9 +146,9 @@ pub(crate) fn expand<'a>(
 ) -> Result<Expanded, Failure>
     requires linked { AreLinked (listed entries.old) }
     requires scope { at.scope ≤ length (listed entries.old) }
-    requires small { at.bound + at.left ≤ most_named }
+    requires small { at.bound + at.nodes_left ≤ most_named }
     ensures kept { OnOk result (listed entries.new ≡ listed entries.old) }
-    ensures same { Gives at.room at.left result
+    ensures same { Gives at.depth_left at.nodes_left result
         (part_in at.primes (scope_at (listed entries.old) at.scope) at.bound tree.now) }
 {
     let inside = at.inside()?;
@@ -154,7 +159,7 @@ pub(crate) fn expand<'a>(
         primes: found.primes,
         ..inside
     };
-    let made = node_behind(alloc, entries, found, at.primes, inside)?;
+    let made = node_of_head(alloc, entries, found, at.primes, inside)?;
     entries.truncate(mark);
     Ok(made)
 }
@@ -169,15 +174,15 @@ pub(crate) fn node_of<'a>(
 ) -> Result<Expanded, Failure>
     requires linked { AreLinked (listed entries.old) }
     requires scope { at.scope ≤ length (listed entries.old) }
-    requires small { at.bound + at.left < most_named }
+    requires small { at.bound + at.nodes_left < most_named }
     ensures kept { OnOk result (listed entries.new ≡ listed entries.old) }
-    ensures same { Gives (at.room + 1) (at.left + 1) result
+    ensures same { Gives (at.depth_left + 1) (at.nodes_left + 1) result
         (with_primes at.primes
         (form_in form.entry (scope_at (listed entries.old) at.scope) at.bound)) }
 {
     match form {
-        Form::Leaf(place, node) => leaf_of(alloc, place, node, at.primes, at.left),
-        Form::Variable(place, index) => variable_of(place, index, at.primes, at.left),
+        Form::Leaf(place, node) => leaf_of(alloc, place, node, at.primes, at.nodes_left),
+        Form::Variable(place, index) => variable_of(place, index, at.primes, at.nodes_left),
         Form::One(place, node, part) => one_node(alloc, entries, place, node, part, at),
         Form::Two(place, node, a, b) => two_node(alloc, entries, place, node, a, b, at),
         Form::Three(place, node, first, second, third) => {
@@ -244,16 +249,16 @@ fn use_node<'a>(
 ) -> Result<Expanded, Failure>
     requires linked { AreLinked (listed entries.old) }
     requires scope { at.scope ≤ length (listed entries.old) }
-    requires small { at.bound + at.left ≤ most_named }
+    requires small { at.bound + at.nodes_left ≤ most_named }
     ensures kept { OnOk result (listed entries.new ≡ listed entries.old) }
-    ensures same { Gives (at.room + 1) (at.left + 1) result
+    ensures same { Gives (at.depth_left + 1) (at.nodes_left + 1) result
         (with_primes at.primes
         (builtin_meaning builtin place
         (arguments_in arguments.now (scope_at (listed entries.old) at.scope)) at.bound)) }
 {
     match builtin {
         Builtin::Kinds(kind) => match arguments {
-            [] => leaf_of(alloc, place, Leaf::Kinds(kind), at.primes, at.left),
+            [] => leaf_of(alloc, place, Leaf::Kinds(kind), at.primes, at.nodes_left),
             _ => Err(Failure::NoExpansion(place)),
         },
         Builtin::Sequences => match arguments {
@@ -295,9 +300,9 @@ fn one_node<'a>(
 ) -> Result<Expanded, Failure>
     requires linked { AreLinked (listed entries.old) }
     requires scope { at.scope ≤ length (listed entries.old) }
-    requires small { at.bound + at.left ≤ most_named }
+    requires small { at.bound + at.nodes_left ≤ most_named }
     ensures kept { OnOk result (listed entries.new ≡ listed entries.old) }
-    ensures same { Gives (at.room + 1) (at.left + 1) result
+    ensures same { Gives (at.depth_left + 1) (at.nodes_left + 1) result
         (made (λ x. nodes.one node.entry place x)
         (part_in at.primes (scope_at (listed entries.old) at.scope) at.bound part.now)) }
 {
@@ -305,7 +310,7 @@ fn one_node<'a>(
     let core = one_core(alloc, place, node, part.core)?;
     Ok(Expanded {
         core,
-        left: part.left,
+        nodes_left: part.nodes_left,
     })
 }
 
@@ -323,9 +328,9 @@ fn two_node<'a>(
 ) -> Result<Expanded, Failure>
     requires linked { AreLinked (listed entries.old) }
     requires scope { at.scope ≤ length (listed entries.old) }
-    requires small { at.bound + at.left ≤ most_named }
+    requires small { at.bound + at.nodes_left ≤ most_named }
     ensures kept { OnOk result (listed entries.new ≡ listed entries.old) }
-    ensures same { Gives (at.room + 1) (at.left + 1) result
+    ensures same { Gives (at.depth_left + 1) (at.nodes_left + 1) result
         (made (λ xy. nodes.two node place xy.0 xy.1)
         (both (part_in at.primes (scope_at (listed entries.old) at.scope) at.bound first.now)
         (part_in at.primes (scope_at (listed entries.old) at.scope) at.bound second.now))) }
@@ -334,7 +339,7 @@ fn two_node<'a>(
     let core = two_core(alloc, place, node, two.first, two.second)?;
     Ok(Expanded {
         core,
-        left: two.left,
+        nodes_left: two.nodes_left,
     })
 }
 
@@ -359,9 +364,9 @@ fn three_node<'a>(
 ) -> Result<Expanded, Failure>
     requires linked { AreLinked (listed entries.old) }
     requires scope { at.scope ≤ length (listed entries.old) }
-    requires small { at.bound + at.left ≤ most_named }
+    requires small { at.bound + at.nodes_left ≤ most_named }
     ensures kept { OnOk result (listed entries.new ≡ listed entries.old) }
-    ensures same { Gives (at.room + 1) (at.left + 1) result
+    ensures same { Gives (at.depth_left + 1) (at.nodes_left + 1) result
         (made (λ t. nodes.three node place t.0.0 t.0.1 t.1)
         (both
         (both
@@ -378,13 +383,13 @@ fn three_node<'a>(
         third,
     } = operands;
     let two = two_parts(alloc, entries, first, second, at.primes, at)?;
-    let left = two.left;
+    let nodes_left = two.nodes_left;
     let second = boxed(alloc, two.second)?;
-    let third = expand(alloc, entries, third, ExpandContext { left, ..at })?;
+    let third = expand(alloc, entries, third, ExpandContext { nodes_left, ..at })?;
     let core = three_core(alloc, place, node, two.first, second, third.core)?;
     Ok(Expanded {
         core,
-        left: third.left,
+        nodes_left: third.nodes_left,
     })
 }
 
@@ -401,18 +406,18 @@ fn many_node<'a>(
 ) -> Result<Expanded, Failure>
     requires linked { AreLinked (listed entries.old) }
     requires scope { at.scope ≤ length (listed entries.old) }
-    requires small { at.bound + at.left ≤ most_named }
+    requires small { at.bound + at.nodes_left ≤ most_named }
     ensures kept { OnOk result (listed entries.new ≡ listed entries.old) }
-    ensures same { Gives (at.room + 1) (at.left + 1) result
+    ensures same { Gives (at.depth_left + 1) (at.nodes_left + 1) result
         (made (λ xs. nodes.many node place (exprs xs))
         (each_of (part_in at.primes (scope_at (listed entries.old) at.scope) at.bound)
         items.now)) }
 {
-    let many = each(alloc, entries, items, at)?;
+    let many = expand_all(alloc, entries, items, at)?;
     let core = many_core(alloc, place, node, many.parts)?;
     Ok(Expanded {
         core,
-        left: many.left,
+        nodes_left: many.nodes_left,
     })
 }
 
@@ -429,22 +434,28 @@ fn index_node<'a>(
 ) -> Result<Expanded, Failure>
     requires linked { AreLinked (listed entries.old) }
     requires scope { at.scope ≤ length (listed entries.old) }
-    requires small { at.bound + at.left ≤ most_named }
+    requires small { at.bound + at.nodes_left ≤ most_named }
     ensures kept { OnOk result (listed entries.new ≡ listed entries.old) }
-    ensures same { Gives (at.room + 1) (at.left + 1) result
+    ensures same { Gives (at.depth_left + 1) (at.nodes_left + 1) result
         (made (λ xy. nodes.two BinaryNode.Apply place xy.0 xy.1)
         (both
         (part_in at.primes (scope_at (listed entries.old) at.scope) at.bound function.now)
         (key_in at.primes (scope_at (listed entries.old) at.scope) at.bound items.now))) }
 {
     let function = expand(alloc, entries, function, at)?;
-    let left = function.left;
+    let nodes_left = function.nodes_left;
     let function = boxed(alloc, function.core)?;
-    let key = key(alloc, entries, place, items, ExpandContext { left, ..at })?;
+    let key = expand_argument(
+        alloc,
+        entries,
+        place,
+        items,
+        ExpandContext { nodes_left, ..at },
+    )?;
     let core = two_core(alloc, place, BinaryNode::Apply, function, key.core)?;
     Ok(Expanded {
         core,
-        left: key.left,
+        nodes_left: key.nodes_left,
     })
 }
 
@@ -460,9 +471,9 @@ fn cases_node<'a>(
 ) -> Result<Expanded, Failure>
     requires linked { AreLinked (listed entries.old) }
     requires scope { at.scope ≤ length (listed entries.old) }
-    requires small { at.bound + at.left ≤ most_named }
+    requires small { at.bound + at.nodes_left ≤ most_named }
     ensures kept { OnOk result (listed entries.new ≡ listed entries.old) }
-    ensures same { Gives (at.room + 1) (at.left + 1) result
+    ensures same { Gives (at.depth_left + 1) (at.nodes_left + 1) result
         (made (λ xs. expr.cases place (arms_with xs expr.no_arms))
         (each_of (arm_in at.primes (scope_at (listed entries.old) at.scope) at.bound)
         arms.now)) }
@@ -470,7 +481,7 @@ fn cases_node<'a>(
     let made = arms_of(alloc, entries, arms, at)?;
     Ok(Expanded {
         core: cases_core(place, made.arms),
-        left: made.left,
+        nodes_left: made.nodes_left,
     })
 }
 
@@ -487,9 +498,9 @@ fn cases_or_node<'a>(
 ) -> Result<Expanded, Failure>
     requires linked { AreLinked (listed entries.old) }
     requires scope { at.scope ≤ length (listed entries.old) }
-    requires small { at.bound + at.left ≤ most_named }
+    requires small { at.bound + at.nodes_left ≤ most_named }
     ensures kept { OnOk result (listed entries.new ≡ listed entries.old) }
-    ensures same { Gives (at.room + 1) (at.left + 1) result
+    ensures same { Gives (at.depth_left + 1) (at.nodes_left + 1) result
         (made (λ xs. expr.cases place (arms_with xs.0 (expr.other xs.1)))
         (both
         (each_of (arm_in at.primes (scope_at (listed entries.old) at.scope) at.bound)
@@ -497,12 +508,12 @@ fn cases_or_node<'a>(
         (part_in at.primes (scope_at (listed entries.old) at.scope) at.bound last.now))) }
 {
     let made = arms_of(alloc, entries, arms, at)?;
-    let left = made.left;
-    let last = expand(alloc, entries, last, ExpandContext { left, ..at })?;
+    let nodes_left = made.nodes_left;
+    let last = expand(alloc, entries, last, ExpandContext { nodes_left, ..at })?;
     let core = cases_or_core(alloc, place, made.arms, last.core)?;
     Ok(Expanded {
         core,
-        left: last.left,
+        nodes_left: last.nodes_left,
     })
 }
 
@@ -519,22 +530,22 @@ fn product_node<'a>(
 ) -> Result<Expanded, Failure>
     requires linked { AreLinked (listed entries.old) }
     requires scope { at.scope ≤ length (listed entries.old) }
-    requires small { at.bound + at.left ≤ most_named }
+    requires small { at.bound + at.nodes_left ≤ most_named }
     ensures kept { OnOk result (listed entries.new ≡ listed entries.old) }
-    ensures same { Gives (at.room + 1) (at.left + 1) result
+    ensures same { Gives (at.depth_left + 1) (at.nodes_left + 1) result
         (made (λ xs. expr.product place (exprs (xs.0 ∷ xs.1)))
         (both (part_in at.primes (scope_at (listed entries.old) at.scope) at.bound first.now)
         (each_of (part_in at.primes (scope_at (listed entries.old) at.scope) at.bound)
         others.now))) }
 {
     let first = expand(alloc, entries, first, at)?;
-    let left = first.left;
+    let nodes_left = first.nodes_left;
     let first = boxed(alloc, first.core)?;
-    let others = each(alloc, entries, others, ExpandContext { left, ..at })?;
+    let others = expand_all(alloc, entries, others, ExpandContext { nodes_left, ..at })?;
     let core = product_core(place, first, others.parts)?;
     Ok(Expanded {
         core,
-        left: others.left,
+        nodes_left: others.nodes_left,
     })
 }
 
@@ -551,9 +562,9 @@ fn fields_node<'a>(
 ) -> Result<Expanded, Failure>
     requires linked { AreLinked (listed entries.old) }
     requires scope { at.scope ≤ length (listed entries.old) }
-    requires small { at.bound + at.left ≤ most_named }
+    requires small { at.bound + at.nodes_left ≤ most_named }
     ensures kept { OnOk result (listed entries.new ≡ listed entries.old) }
-    ensures same { Gives (at.room + 1) (at.left + 1) result
+    ensures same { Gives (at.depth_left + 1) (at.nodes_left + 1) result
         (made (λ xs. nodes.fielded node place (fields_of xs))
         (each_of (field_in at.primes (scope_at (listed entries.old) at.scope) at.bound)
         fields.now)) }
@@ -562,7 +573,7 @@ fn fields_node<'a>(
     let core = fielded_core(alloc, place, node, made.fields)?;
     Ok(Expanded {
         core,
-        left: made.left,
+        nodes_left: made.nodes_left,
     })
 }
 
@@ -578,20 +589,20 @@ fn two_parts<'a>(
 ) -> Result<Pair, Failure>
     requires linked { AreLinked (listed entries.old) }
     requires scope { at.scope ≤ length (listed entries.old) }
-    requires small { at.bound + at.left ≤ most_named }
+    requires small { at.bound + at.nodes_left ≤ most_named }
     ensures kept { OnOk result (listed entries.new ≡ listed entries.old) }
-    ensures same { GivesTwo at.room at.left result
+    ensures same { GivesTwo at.depth_left at.nodes_left result
         (both (part_in primes (scope_at (listed entries.old) at.scope) at.bound first.now)
         (part_in at.primes (scope_at (listed entries.old) at.scope) at.bound second.now)) }
 {
     let first = expand(alloc, entries, first, ExpandContext { primes, ..at })?;
-    let left = first.left;
+    let nodes_left = first.nodes_left;
     let first = boxed(alloc, first.core)?;
-    let second = expand(alloc, entries, second, ExpandContext { left, ..at })?;
+    let second = expand(alloc, entries, second, ExpandContext { nodes_left, ..at })?;
     Ok(Pair {
         first,
         second: second.core,
-        left: second.left,
+        nodes_left: second.nodes_left,
     })
 }
 
@@ -630,8 +641,8 @@ pub(crate) fn expansion<'a>(
         scope,
         primes,
         bound: 0,
-        room: MAX_PATH,
-        left: MAX_NODES,
+        depth_left: MAX_PATH,
+        nodes_left: MAX_NODES,
         reported,
     };
     let made = expand(alloc, entries, tree, at)?;

@@ -6,20 +6,16 @@ ghost use Rattle.tla_core.specs.Expr as expr;
 ghost use Rattle.tla_core.specs.ExprOf.{expr_of};
 ghost use Rattle.tla_model.specs.Size.{IsWithinLimits};
 ghost use Rattle.tla_tree.specs.Tree.{Name};
-ghost use Rattle.tla_expand.specs.Expand as expansion;
-ghost use Rattle.tla_expand.specs.Primes.{with_primes};
-ghost use Rattle.tla_expand.specs.Scopes.{AreLinked, scope_at};
-ghost use Rattle.tla_expand.specs.Listed.{listed};
+ghost use Rattle.tla_scopes.specs.Expand as expansion;
+ghost use Rattle.tla_scopes.specs.Primes.{with_primes};
+ghost use Rattle.tla_scopes.specs.Scopes.{AreLinked, scope_at};
+ghost use Rattle.tla_scopes.specs.Listed.{listed};
 
-use crate::builders::place_of;
-use crate::entries::Entries;
 use crate::expand::{ExpandContext, NODES_BELOW, PATH_BELOW, expand, node_of};
-use crate::failure::Failure;
-use crate::primes::Primes;
-use crate::uses::{Reduction, use_of};
 use std::alloc::Global;
 use tla_core::Core;
 use tla_model::{MAX_NODES, MAX_PATH};
+use tla_scopes::{Entries, Failure, Primes, Reduction, place_of, use_of};
 use tla_tree::Written;
 
 /// The expansion of a name without arguments in a scope, with these primes, with at most 200,000 nodes, and at most 300
@@ -62,8 +58,8 @@ pub(crate) fn named_expansion<'a>(
                 scope,
                 primes,
                 bound: 0,
-                room: MAX_PATH,
-                left: MAX_NODES,
+                depth_left: MAX_PATH,
+                nodes_left: MAX_NODES,
                 reported,
             };
             let made = expand(alloc, entries, tree, inside)?;
@@ -74,8 +70,8 @@ pub(crate) fn named_expansion<'a>(
                 scope: head.scope,
                 primes: head.primes,
                 bound: 0,
-                room: PATH_BELOW,
-                left: NODES_BELOW,
+                depth_left: PATH_BELOW,
+                nodes_left: NODES_BELOW,
                 reported,
             };
             let made = node_of(alloc, entries, head.form, inside)?;

@@ -2,8 +2,8 @@
 
 ghost use Rattle.std.specs.Prelude.{◌≡◌, ◌∷◌, [], IfOk, IfErr};
 
-use crate::failure::Failure;
 use std::alloc::Global;
+use tla_scopes::Failure;
 use tla_tree::push;
 
 pub(crate) fn boxed<T: Drop>(alloc: Global, item: T) -> Result<Box<T>, Failure>

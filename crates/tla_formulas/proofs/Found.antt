@@ -9,17 +9,17 @@ use Rattle.tla_config.specs.declared.error.DefsCode.{DefsCode}
 use Rattle.tla_config.specs.declared.error.DefsCode.TheVariants as c
 use Rattle.tla_config.specs.declared.error.DefsError.{DefsError}
 use Rattle.tla_config.specs.Names.{Name}
-use Rattle.tla_expand.specs.declared.primes.Primes.{Primes}
-use Rattle.tla_expand.specs.declared.primes.Primes.TheVariants.{Never, Once, Twice}
-use Rattle.tla_expand.specs.Meanings.{Scope}
-use Rattle.tla_expand.specs.Expand.{expand}
-use Rattle.tla_expand.specs.Primes.{with_primes}
-use Rattle.tla_expand.specs.Maybe.{◌>>=◌}
-use Rattle.tla_expand.specs.Primes.{primes}
+use Rattle.tla_scopes.specs.declared.primes.Primes.{Primes}
+use Rattle.tla_scopes.specs.declared.primes.Primes.TheVariants.{Never, Once, Twice}
+use Rattle.tla_scopes.specs.Meanings.{Scope}
+use Rattle.tla_scopes.specs.Expand.{expand}
+use Rattle.tla_scopes.specs.Primes.{with_primes}
+use Rattle.tla_scopes.specs.Maybe.{◌>>=◌}
+use Rattle.tla_scopes.specs.Primes.{primes}
 use Rattle.tla_expand.proofs.Keeps.{stays}
 use Rattle.tla_expand.proofs.Levels.{none_more}
 use Rattle.tla_expand.proofs.PrimesSize.{primes_sizes}
-use Rattle.tla_expand.proofs.Primed.{unprimed}
+use Rattle.tla_scopes.proofs.Primed.{unprimed}
 use Rattle.tla_expand.proofs.PrimesFit.{inv}
 use Rattle.tla_model.specs.Size.{IsWithinLimits}
 use Rattle.tla_formulas.specs.Refused.{IsCause, IsOfFormula}

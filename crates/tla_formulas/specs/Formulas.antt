@@ -5,10 +5,10 @@ use Rattle.tla_core.specs.Expr.{Expr}
 use Rattle.tla_tree.specs.declared.word.Written.{Written}
 use Rattle.tla_tree.specs.Tree.{Tree}
 use Rattle.tla_tree.specs.Tree as t
-use Rattle.tla_expand.specs.Primes.{primes}
-use Rattle.tla_expand.specs.declared.primes.Primes.TheVariants.{Once, Twice}
-use Rattle.tla_expand.specs.Meanings.{Scope}
-use Rattle.tla_expand.specs.Expand.{expand}
+use Rattle.tla_scopes.specs.Primes.{primes}
+use Rattle.tla_scopes.specs.declared.primes.Primes.TheVariants.{Once, Twice}
+use Rattle.tla_scopes.specs.Meanings.{Scope}
+use Rattle.tla_scopes.specs.Expand.{expand}
 use Rattle.tla_model.specs.Size.{IsWithinLimits}
 
 -- the formula of a name of the configuration, in this scope of the module

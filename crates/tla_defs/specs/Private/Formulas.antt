@@ -5,7 +5,7 @@ use Rattle.tla_core.specs.Expr.{Expr}
 use Rattle.tla_tree.specs.declared.word.Written.{Written}
 use Rattle.tla_tree.specs.Tree.{Tree}
 use Rattle.tla_config.specs.Names.{Name}
-use Rattle.tla_expand.specs.Meanings.{Scope}
+use Rattle.tla_scopes.specs.Meanings.{Scope}
 use Rattle.tla_formulas.specs.Formulas.{IsStatePredicate, IsAssumption}
 use Rattle.tla_defs.specs.Model.{AreStatePredicates}
 

@@ -2,7 +2,7 @@
 use Rattle.std.specs.Prelude.{List, [], ◌∷◌}
 use Rattle.tla_tree.specs.Units.{UnitTree}
 use Rattle.tla_config.specs.Statements.{Item, Value, Replaces}
-use Rattle.tla_expand.specs.Meanings.{Scope, standard}
+use Rattle.tla_scopes.specs.Meanings.{Scope, standard}
 use Rattle.tla_defs.specs.Global.{meant}
 
 -- An operator that replaces a name may be defined after its uses, so for each such item there is one more pass in which

@@ -8,10 +8,10 @@ use Rattle.tla_config.specs.declared.error.DefsCode.TheVariants as c
 use Rattle.tla_config.specs.declared.error.DefsError.{DefsError}
 use Rattle.tla_config.specs.declared.error.Source.TheVariants as source
 use Rattle.tla_config.specs.Statements.{Statement, Item}
-use Rattle.tla_expand.specs.declared.primes.Primes.TheVariants.{Once}
-use Rattle.tla_expand.specs.Expand.{expand}
-use Rattle.tla_expand.specs.Meanings.{Scope}
-use Rattle.tla_expand.specs.Primes.{with_primes}
+use Rattle.tla_scopes.specs.declared.primes.Primes.TheVariants.{Once}
+use Rattle.tla_scopes.specs.Expand.{expand}
+use Rattle.tla_scopes.specs.Meanings.{Scope}
+use Rattle.tla_scopes.specs.Primes.{with_primes}
 use Rattle.tla_names.specs.Refusal.{refusal_at}
 use Rattle.tla_defs.specs.declared.init_and_next.InitAndNext.{InitAndNext}
 use Rattle.tla_defs.specs.declared.init_and_next.InitAndNext.TheVariants as meant

@@ -6,9 +6,9 @@ use Rattle.tla_tree.specs.View.{view}
 use Rattle.tla_expand.specs.declared.binders.Bind.{Bind}
 use Rattle.tla_expand.specs.declared.binders.Names.{Names}
 use Rattle.tla_expand.specs.declared.binders.Names.TheVariants.{Name, Tuple}
-use Rattle.tla_expand.specs.Bound as x
-use Rattle.tla_expand.specs.Meanings.{Scope, with_name, bound_name}
-use Rattle.tla_expand.specs.Expand.{expand}
+use Rattle.tla_scopes.specs.Bound as x
+use Rattle.tla_scopes.specs.Meanings.{Scope, with_name, bound_name}
+use Rattle.tla_scopes.specs.Expand.{expand}
 
 abbrev pub names_of : Names → x.Names
 names_of (Name w) = x.named w.now.word

@@ -1,5 +1,5 @@
 -- What the parts of the code answer. Private contracts alone cite this.
-use Rattle.std.specs.Prelude.{◌≡◌, ◌≤◌, ℕ, ◌+◌, Bool, true, false, max, List, [], ◌∷◌, map, length, Option, Some, None, Result, Ok, Err}
+use Rattle.std.specs.Prelude.{◌≡◌, ◌≤◌, ℕ, ◌+◌, Bool, true, false, max, List, [], ◌∷◌, map, Option, Some, None, Result, Ok, Err}
 use Rattle.std.specs.Borrow.{Bor}
 use Rattle.tla_core.specs.declared.fault.Place.{Place}
 use Rattle.tla_core.specs.declared.expression.Core.{Core}
@@ -15,14 +15,8 @@ use Rattle.tla_tree.specs.declared.tree.Key.{Key}
 use Rattle.tla_tree.specs.declared.tree.Update.{Update}
 use Rattle.tla_tree.specs.Tree.{trees}
 use Rattle.tla_tree.specs.View.{view, key_view}
-use Rattle.tla_expand.specs.declared.arena.Entry.{Entry}
-use Rattle.tla_expand.specs.declared.arena.What.{What}
-use Rattle.tla_expand.specs.declared.arena.What.TheVariants as what
-use Rattle.tla_expand.specs.declared.failure.Failure.{Failure}
-use Rattle.tla_expand.specs.declared.failure.Failure.TheVariants.{NoExpansion, TooLarge, Memory}
-use Rattle.tla_expand.specs.declared.uses.Head.{Head}
-use Rattle.tla_expand.specs.declared.uses.Reduction.{Reduction}
-use Rattle.tla_expand.specs.declared.uses.Reduction.TheVariants as reduction
+use Rattle.tla_scopes.specs.declared.failure.Failure.{Failure}
+use Rattle.tla_scopes.specs.declared.failure.Failure.TheVariants.{NoExpansion, TooLarge, Memory}
 use Rattle.tla_expand.specs.declared.expanded.Expanded.{Expanded}
 use Rattle.tla_expand.specs.declared.expanded.Pair.{Pair}
 use Rattle.tla_expand.specs.declared.expanded.Many.{Many}
@@ -31,49 +25,23 @@ use Rattle.tla_expand.specs.declared.expanded.Fields.{Fields}
 use Rattle.tla_expand.specs.declared.expanded.Change.{Change}
 use Rattle.tla_expand.specs.declared.expanded.Changes.{Changes}
 use Rattle.tla_expand.specs.declared.binders.Bind.{Bind}
-use Rattle.tla_expand.specs.declared.nodes.BinaryNode.TheVariants as two_
-use Rattle.tla_expand.specs.declared.primes.Primes.{Primes}
-use Rattle.tla_expand.specs.Maybe.{◌>>=◌, each_of}
-use Rattle.tla_expand.specs.Primes.{one_more, with_primes}
-use Rattle.tla_expand.specs.Unchanged.{unchanged}
-use Rattle.tla_expand.specs.Meanings.{Scope, Argument, with_name, bound_name}
-use Rattle.tla_expand.specs.Expand.{expand, expand_key, expand_step}
-use Rattle.tla_expand.specs.Places.{at_name}
-use Rattle.tla_expand.specs.Lists.{named_part, changed_part}
-use Rattle.tla_expand.specs.Nodes.{two}
-use Rattle.tla_expand.specs.Bound.{set_for}
+use Rattle.tla_scopes.specs.declared.nodes.BinaryNode.TheVariants as two_
+use Rattle.tla_scopes.specs.declared.primes.Primes.{Primes}
+use Rattle.tla_scopes.specs.Maybe.{◌>>=◌, each_of}
+use Rattle.tla_scopes.specs.Primes.{one_more, with_primes}
+use Rattle.tla_scopes.specs.Unchanged.{unchanged}
+use Rattle.tla_scopes.specs.Meanings.{Scope, with_name, bound_name}
+use Rattle.tla_scopes.specs.Expand.{expand, expand_key, expand_step}
+use Rattle.tla_scopes.specs.Places.{at_name}
+use Rattle.tla_scopes.specs.Lists.{named_part, changed_part}
+use Rattle.tla_scopes.specs.Nodes.{two}
+use Rattle.tla_scopes.specs.Bound.{set_for}
 use Rattle.tla_expand.specs.Private.Binders.{names_of}
-use Rattle.tla_expand.specs.Private.Forms.{form_in}
-use Rattle.tla_expand.specs.Scopes.{scope_at}
 
 -- How many names may be bound around an expression and how many nodes may be left for it, both together: each name that
 -- is bound takes a node.
 abbrev pub most_named : ℕ
 most_named = MAX_NODES
-
-abbrev pub head_gives : List Entry → Head → Argument
-head_gives es h d = with_primes h.primes (form_in h.form (scope_at es h.scope) d)
-
-abbrev pub reduction_gives : List Entry → Reduction → Argument
-reduction_gives es (reduction.Goes t s k) d = with_primes k (expand (view t.now) (scope_at es s) d)
-reduction_gives es (reduction.Ends h) d = head_gives es h d
-
-abbrev pub IsWithin : List Entry → Reduction → Type 0
-IsWithin es (reduction.Goes t s k) = s ≤ length es
-IsWithin es (reduction.Ends h) = h.scope ≤ length es
-
--- what a name means that takes no arguments
-abbrev pub IsAlone : What → Type 0
-IsAlone (what.Definition ws body home) = ⊥
-IsAlone (what.Gives n g) = ⊥
-IsAlone (what.Module b) = ⊥
-IsAlone w = Unit {0}
-
--- A failure says that there is no expansion. Memory may be refused at any time.
-abbrev pub Explains : Failure → Argument → Type 0
-Explains (NoExpansion p) e = (d : ℕ) → e d ≡ None
-Explains TooLarge e = ⊥
-Explains Memory e = Unit {0}
 
 -- There is no such expansion. Memory may be refused at any time.
 abbrev pub SaysNone : Failure → Option Expr → Type 0
@@ -90,20 +58,20 @@ MakesLeaf (Err (NoExpansion p)) o = ⊥
 
 -- Why there is no expansion of at most this many nodes and this depth. Memory may run out at any time.
 abbrev pub FailsBy : {A : Type 0} → (A → ℕ) → (A → ℕ) → ℕ → ℕ → Failure → Option A → Type 0
-FailsBy size deep room left (NoExpansion p) o = o ≡ None
-FailsBy {A = A} size deep room left TooLarge o = (x : A) → o ≡ Some x → size x ≤ left → deep x ≤ room → ⊥
-FailsBy size deep room left Memory o = Unit {0}
+FailsBy size deep depth_left nodes_left (NoExpansion p) o = o ≡ None
+FailsBy {A = A} size deep depth_left nodes_left TooLarge o = (x : A) → o ≡ Some x → size x ≤ nodes_left → deep x ≤ depth_left → ⊥
+FailsBy size deep depth_left nodes_left Memory o = Unit {0}
 
 abbrev pub Fails : ℕ → ℕ → Failure → Option Expr → Type 0
-Fails room left f o = FailsBy nodes depth room left f o
+Fails depth_left nodes_left f o = FailsBy nodes depth depth_left nodes_left f o
 
 -- What was made of parts, with this many nodes left.
 abbrev pub Makes : {A : Type 0} → (A → ℕ) → (A → ℕ) → ℕ → ℕ → ℕ → A → Option A → Type 0
-Makes size deep room left rest x o = (o ≡ Some x) × (rest + size x ≡ left) × (deep x ≤ room)
+Makes size deep depth_left nodes_left rest x o = (o ≡ Some x) × (rest + size x ≡ nodes_left) × (deep x ≤ depth_left)
 
 abbrev pub Gives : ℕ → ℕ → Result Expanded Failure → Option Expr → Type 0
-Gives room left (Ok x) o = Makes nodes depth room left x.left (expr_of x.core) o
-Gives room left (Err f) o = Fails room left f o
+Gives depth_left nodes_left (Ok x) o = Makes nodes depth depth_left nodes_left x.nodes_left (expr_of x.core) o
+Gives depth_left nodes_left (Err f) o = Fails depth_left nodes_left f o
 
 -- two parts
 abbrev pub both : {A B : Type 0} → Option A → Option B → Option (A × B)
@@ -119,8 +87,8 @@ abbrev pub parts_of : Pair → Expr × Expr
 parts_of x = (expr_of x.first.value, expr_of x.second)
 
 abbrev pub GivesTwo : ℕ → ℕ → Result Pair Failure → Option (Expr × Expr) → Type 0
-GivesTwo room left (Ok x) o = Makes (sum_of nodes nodes) (larger_of depth depth) room left x.left (parts_of x) o
-GivesTwo room left (Err f) o = FailsBy (sum_of nodes nodes) (larger_of depth depth) room left f o
+GivesTwo depth_left nodes_left (Ok x) o = Makes (sum_of nodes nodes) (larger_of depth depth) depth_left nodes_left x.nodes_left (parts_of x) o
+GivesTwo depth_left nodes_left (Err f) o = FailsBy (sum_of nodes nodes) (larger_of depth depth) depth_left nodes_left f o
 
 -- a node of its parts
 abbrev pub made : {A : Type 0} → (A → Expr) → Option A → Option Expr
@@ -136,12 +104,12 @@ highest deep [] = 0
 highest deep (x ∷ xs) = max (deep x) (highest deep xs)
 
 abbrev pub GivesMany : ℕ → ℕ → Result Many Failure → Option (List Expr) → Type 0
-GivesMany room left (Ok x) o = Makes (total nodes) (highest depth) room left x.left (map expr_of x.parts.items) o
-GivesMany room left (Err f) o = FailsBy (total nodes) (highest depth) room left f o
+GivesMany depth_left nodes_left (Ok x) o = Makes (total nodes) (highest depth) depth_left nodes_left x.nodes_left (map expr_of x.parts.items) o
+GivesMany depth_left nodes_left (Err f) o = FailsBy (total nodes) (highest depth) depth_left nodes_left f o
 
 abbrev pub GivesArms : ℕ → ℕ → Result Arms Failure → Option (List (Expr × Expr)) → Type 0
-GivesArms room left (Ok x) o = Makes (total (sum_of nodes nodes)) (highest (larger_of depth depth)) room left x.left (map exprs_of_arm x.arms.items) o
-GivesArms room left (Err f) o = FailsBy (total (sum_of nodes nodes)) (highest (larger_of depth depth)) room left f o
+GivesArms depth_left nodes_left (Ok x) o = Makes (total (sum_of nodes nodes)) (highest (larger_of depth depth)) depth_left nodes_left x.nodes_left (map exprs_of_arm x.arms.items) o
+GivesArms depth_left nodes_left (Err f) o = FailsBy (total (sum_of nodes nodes)) (highest (larger_of depth depth)) depth_left nodes_left f o
 
 abbrev pub field_nodes : List ℕ × Expr → ℕ
 field_nodes f = nodes f.1
@@ -150,8 +118,8 @@ abbrev pub field_depth : List ℕ × Expr → ℕ
 field_depth f = depth f.1
 
 abbrev pub GivesFields : ℕ → ℕ → Result Fields Failure → Option (List (List ℕ × Expr)) → Type 0
-GivesFields room left (Ok x) o = Makes (total field_nodes) (highest field_depth) room left x.left (map named_part x.fields.items) o
-GivesFields room left (Err f) o = FailsBy (total field_nodes) (highest field_depth) room left f o
+GivesFields depth_left nodes_left (Ok x) o = Makes (total field_nodes) (highest field_depth) depth_left nodes_left x.nodes_left (map named_part x.fields.items) o
+GivesFields depth_left nodes_left (Err f) o = FailsBy (total field_nodes) (highest field_depth) depth_left nodes_left f o
 
 -- a path and a new value
 abbrev pub update_nodes : List Expr × Expr → ℕ
@@ -161,12 +129,12 @@ abbrev pub update_depth : List Expr × Expr → ℕ
 update_depth = larger_of (highest depth) depth
 
 abbrev pub GivesChange : ℕ → ℕ → Result Change Failure → Option (List Expr × Expr) → Type 0
-GivesChange room left (Ok x) o = Makes update_nodes update_depth room left x.left (map expr_of x.path.items, expr_of x.value) o
-GivesChange room left (Err f) o = FailsBy update_nodes update_depth room left f o
+GivesChange depth_left nodes_left (Ok x) o = Makes update_nodes update_depth depth_left nodes_left x.nodes_left (map expr_of x.path.items, expr_of x.value) o
+GivesChange depth_left nodes_left (Err f) o = FailsBy update_nodes update_depth depth_left nodes_left f o
 
 abbrev pub GivesChanges : ℕ → ℕ → Result Changes Failure → Option (List (List Expr × Expr)) → Type 0
-GivesChanges room left (Ok x) o = Makes (total update_nodes) (highest update_depth) room left x.left (map changed_part x.updates.items) o
-GivesChanges room left (Err f) o = FailsBy (total update_nodes) (highest update_depth) room left f o
+GivesChanges depth_left nodes_left (Ok x) o = Makes (total update_nodes) (highest update_depth) depth_left nodes_left x.nodes_left (map changed_part x.updates.items) o
+GivesChanges depth_left nodes_left (Err f) o = FailsBy (total update_nodes) (highest update_depth) depth_left nodes_left f o
 
 -- the parts of forms, under these primes, in a scope and given how many names are bound
 abbrev pub part_in : Primes → Scope → ℕ → s.Expr → Option Expr

@@ -1,10 +1,10 @@
 -- There is one proof at most that entries speak of earlier ones. Private contracts alone cite this.
 use Rattle.std.specs.Prelude.{ℕ, ◌+◌, List, [], ◌∷◌}
 use Rattle.std.proofs.Props.{props}
-use Rattle.tla_expand.specs.declared.arena.Entry.{Entry}
-use Rattle.tla_expand.specs.declared.arena.What.{What}
-use Rattle.tla_expand.specs.declared.arena.What.TheVariants.{Bound, Variable, Value, Argument, Definition, Function, Gives, Module, Unknown}
-use Rattle.tla_expand.specs.Scopes.{IsBelow, LinkedFrom, AreLinked}
+use Rattle.tla_scopes.specs.declared.arena.Entry.{Entry}
+use Rattle.tla_scopes.specs.declared.arena.What.{What}
+use Rattle.tla_scopes.specs.declared.arena.What.TheVariants.{Bound, Variable, Value, Argument, Definition, Function, Gives, Module, Unknown}
+use Rattle.tla_scopes.specs.Scopes.{IsBelow, LinkedFrom, AreLinked}
 
 pub IsBelow-prop : (k : ℕ) (w : What) (rest : ℕ) → IsProp (IsBelow k w rest)
 IsBelow-prop k (Bound i) rest = hlevel props

@@ -4,28 +4,25 @@ ghost use Rattle.std.specs.Prelude.{◌≡◌, ◌≤◌, ◌<◌, ◌+◌, ◌�
 ghost use Rattle.tla_core.specs.Patterns.{items_in};
 ghost use Rattle.tla_tree.specs.View.{view, pattern_view, group_view};
 ghost use Rattle.tla_tree.specs.Tree.{binders};
-ghost use Rattle.tla_expand.specs.Primes.{with_primes};
-ghost use Rattle.tla_expand.specs.Expand as expansion;
-ghost use Rattle.tla_expand.specs.Bound as bounds;
-ghost use Rattle.tla_expand.specs.Bound.{bind_entry, last_or, with_each};
-ghost use Rattle.tla_expand.specs.Scopes.{AreLinked, Extends, scope_at};
+ghost use Rattle.tla_scopes.specs.Primes.{with_primes};
+ghost use Rattle.tla_scopes.specs.Expand as expansion;
+ghost use Rattle.tla_scopes.specs.Bound as bounds;
+ghost use Rattle.tla_scopes.specs.Bound.{bind_entry, last_or, with_each};
+ghost use Rattle.tla_scopes.specs.Scopes.{AreLinked, Extends, scope_at};
 ghost use Rattle.tla_expand.specs.Private.Binders.{names_of, binds_in, opened_at, with_element, item_names};
-ghost use Rattle.tla_expand.specs.Maybe.{each_of};
-ghost use Rattle.tla_expand.specs.Meanings.{Scope};
+ghost use Rattle.tla_scopes.specs.Maybe.{each_of};
+ghost use Rattle.tla_scopes.specs.Meanings.{Scope};
 ghost use Rattle.tla_expand.specs.Private.Gives.{Gives, GivesMany, set_in, most_named};
-ghost use Rattle.tla_expand.specs.Listed.{listed};
+ghost use Rattle.tla_scopes.specs.Listed.{listed};
 
-use crate::arena::{Entry, What, enter};
 use crate::binders::{Bind, Names, bind_list, bind_one};
-use crate::builders::{binding_core, gather_core, opened_core, tried_core};
-use crate::entries::Entries;
+use crate::builders::{binding_core, check_pattern_core, destructure_core, gather_core};
 use crate::expand::{ExpandContext, expand};
 use crate::expanded::{Expanded, Many};
-use crate::failure::Failure;
-use crate::nodes::{Binding, Gather};
 use crate::parts::boxed;
 use std::alloc::Global;
 use tla_core::{Opening, Place};
+use tla_scopes::{Binding, Entries, Entry, Failure, Gather, What, enter};
 use tla_tree::{Binder, Expr, Pattern, Written, push};
 
 /// A form of a body under names: its node, the scope of the names' sets, and the body.
@@ -51,9 +48,9 @@ pub(super) fn bound_several<'a>(
 ) -> Result<Expanded, Failure>
     requires linked { AreLinked (listed entries.old) }
     requires scope { at.scope ≤ length (listed entries.old) }
-    requires small { at.bound + at.left < most_named }
+    requires small { at.bound + at.nodes_left < most_named }
     ensures kept { OnOk result (listed entries.new ≡ listed entries.old) }
-    ensures same { Gives (at.room + 1) (at.left + 1) result
+    ensures same { Gives (at.depth_left + 1) (at.nodes_left + 1) result
         (with_primes at.primes
         (bounds.nested node place
         (expansion.binds_of (binders (map group_view groups.now))
@@ -70,7 +67,7 @@ pub(super) fn bound_several<'a>(
         home: at.scope,
         body,
     };
-    nested(alloc, entries, under, *first, rest, at)
+    expand_nested(alloc, entries, under, *first, rest, at)
 }
 
 /// A body under one entry.
@@ -87,9 +84,9 @@ pub(super) fn bound_one<'a>(
     requires linked { AreLinked (listed entries.old) }
     requires home { under.home ≤ length (listed entries.old) }
     requires scope { at.scope ≤ length (listed entries.old) }
-    requires small { at.bound + at.left < most_named }
+    requires small { at.bound + at.nodes_left < most_named }
     ensures kept { OnOk result (listed entries.new ≡ listed entries.old) }
-    ensures same { Gives (at.room + 1) (at.left + 1) result
+    ensures same { Gives (at.depth_left + 1) (at.nodes_left + 1) result
         (with_primes at.primes
         (bounds.nested under.entry.node under.entry.place
         (bind_entry (pattern_view pattern.now)
@@ -101,12 +98,12 @@ pub(super) fn bound_one<'a>(
     let [first, rest @ ..] = binds.as_slice() else {
         return Err(Failure::NoExpansion(under.place));
     };
-    nested(alloc, entries, under, *first, rest, at)
+    expand_nested(alloc, entries, under, *first, rest, at)
 }
 
 /// One node for each name, one in another. The limits in the context are those of the first one's operands.
 #[cycle(expand)]
-fn nested<'a>(
+fn expand_nested<'a>(
     alloc: Global,
     entries: &mut Entries<'_, 'a>,
     under: Under<'a>,
@@ -117,9 +114,9 @@ fn nested<'a>(
     requires linked { AreLinked (listed entries.old) }
     requires home { under.home ≤ length (listed entries.old) }
     requires scope { at.scope ≤ length (listed entries.old) }
-    requires small { at.bound + at.left < most_named }
+    requires small { at.bound + at.nodes_left < most_named }
     ensures kept { OnOk result (listed entries.new ≡ listed entries.old) }
-    ensures same { Gives (at.room + 1) (at.left + 1) result
+    ensures same { Gives (at.depth_left + 1) (at.nodes_left + 1) result
         (with_primes at.primes
         (bounds.nested under.entry.node under.entry.place
         (binds_in (first.entry ∷ rest.now) (scope_at (listed entries.old) under.entry.home))
@@ -132,7 +129,7 @@ fn nested<'a>(
     };
     let set = expand(alloc, entries, first.set, home)?;
     let inside = ExpandContext {
-        left: set.left,
+        nodes_left: set.nodes_left,
         ..at
     };
     let set = boxed(alloc, set.core)?;
@@ -140,7 +137,7 @@ fn nested<'a>(
     let core = binding_core(alloc, under.place, under.node, set, inner.core)?;
     Ok(Expanded {
         core,
-        left: inner.left,
+        nodes_left: inner.nodes_left,
     })
 }
 
@@ -157,9 +154,9 @@ fn under_element<'a>(
     requires linked { AreLinked (listed entries.old) }
     requires home { under.home ≤ length (listed entries.old) }
     requires scope { at.scope ≤ length (listed entries.old) }
-    requires small { at.bound + at.left < most_named }
+    requires small { at.bound + at.nodes_left < most_named }
     ensures kept { OnOk result (listed entries.new ≡ listed entries.old) }
-    ensures same { Gives at.room at.left result
+    ensures same { Gives at.depth_left at.nodes_left result
         (with_primes at.primes
         (bounds.under under.entry.place (names_of names.entry)
         (last_or (binds_in rest.now (scope_at (listed entries.old) under.entry.home))
@@ -188,9 +185,9 @@ fn under_name<'a>(
     requires linked { AreLinked (listed entries.old) }
     requires home { under.home ≤ length (listed entries.old) }
     requires scope { at.scope ≤ length (listed entries.old) }
-    requires small { at.bound + at.left < most_named }
+    requires small { at.bound + at.nodes_left < most_named }
     ensures kept { OnOk result (listed entries.new ≡ listed entries.old) }
-    ensures same { Gives at.room at.left result
+    ensures same { Gives at.depth_left at.nodes_left result
         (with_primes at.primes
         (bounds.under under.entry.place (bounds.named name.now.word)
         (last_or (binds_in rest.now (scope_at (listed entries.old) under.entry.home))
@@ -212,7 +209,7 @@ fn under_name<'a>(
         bound: at.bound + 1,
         ..at
     };
-    let inner = within(alloc, entries, under, rest, inside)?;
+    let inner = expand_within(alloc, entries, under, rest, inside)?;
     entries.truncate(mark);
     Ok(inner)
 }
@@ -230,9 +227,9 @@ fn under_tuple<'a>(
     requires linked { AreLinked (listed entries.old) }
     requires home { under.home ≤ length (listed entries.old) }
     requires scope { at.scope ≤ length (listed entries.old) }
-    requires small { at.bound + at.left < most_named }
+    requires small { at.bound + at.nodes_left < most_named }
     ensures kept { OnOk result (listed entries.new ≡ listed entries.old) }
-    ensures same { Gives at.room at.left result
+    ensures same { Gives at.depth_left at.nodes_left result
         (with_primes at.primes
         (bounds.under under.entry.place (bounds.tupled names.now)
         (last_or (binds_in rest.now (scope_at (listed entries.old) under.entry.home))
@@ -243,7 +240,7 @@ fn under_tuple<'a>(
         (scope_at (listed entries.old) at.scope) at.bound)) }
 {
     let count = names.len();
-    if count > at.left {
+    if count > at.nodes_left {
         return Err(Failure::TooLarge);
     }
     let openings = opening_of(alloc, names, at.bound)?;
@@ -252,21 +249,21 @@ fn under_tuple<'a>(
     let inside = ExpandContext {
         scope,
         bound: at.bound + 1 + count,
-        left: at.left - count,
+        nodes_left: at.nodes_left - count,
         ..at
     };
-    let inner = within(alloc, entries, under, rest, inside)?;
+    let inner = expand_within(alloc, entries, under, rest, inside)?;
     entries.truncate(mark);
-    let core = opened_core(alloc, under.place, openings, inner.core)?;
+    let core = destructure_core(alloc, under.place, openings, inner.core)?;
     Ok(Expanded {
         core,
-        left: inner.left,
+        nodes_left: inner.nodes_left,
     })
 }
 
 /// The nodes of the remaining names, or the body.
 #[cycle(expand)]
-fn within<'a>(
+fn expand_within<'a>(
     alloc: Global,
     entries: &mut Entries<'_, 'a>,
     under: Under<'a>,
@@ -276,9 +273,9 @@ fn within<'a>(
     requires linked { AreLinked (listed entries.old) }
     requires home { under.home ≤ length (listed entries.old) }
     requires scope { at.scope ≤ length (listed entries.old) }
-    requires small { at.bound + at.left ≤ most_named }
+    requires small { at.bound + at.nodes_left ≤ most_named }
     ensures kept { OnOk result (listed entries.new ≡ listed entries.old) }
-    ensures same { Gives at.room at.left result
+    ensures same { Gives at.depth_left at.nodes_left result
         (with_primes at.primes
         (last_or (binds_in binds.now (scope_at (listed entries.old) under.entry.home))
         (expansion.expand (view under.entry.body.now))
@@ -291,7 +288,7 @@ fn within<'a>(
         return expand(alloc, entries, under.body, at);
     };
     let inside = at.inside()?;
-    nested(alloc, entries, under, *first, rest, inside)
+    expand_nested(alloc, entries, under, *first, rest, inside)
 }
 
 /// Sets, and a body under all their names.
@@ -308,9 +305,9 @@ pub(super) fn gather_node<'a>(
 ) -> Result<Expanded, Failure>
     requires linked { AreLinked (listed entries.old) }
     requires scope { at.scope ≤ length (listed entries.old) }
-    requires small { at.bound + at.left ≤ most_named }
+    requires small { at.bound + at.nodes_left ≤ most_named }
     ensures kept { OnOk result (listed entries.new ≡ listed entries.old) }
-    ensures same { Gives (at.room + 1) (at.left + 1) result
+    ensures same { Gives (at.depth_left + 1) (at.nodes_left + 1) result
         (with_primes at.primes
         (bounds.gathered node place
         (expansion.binds_of (binders (map group_view groups.now))
@@ -322,22 +319,22 @@ pub(super) fn gather_node<'a>(
     let sets = sets_of(alloc, entries, place, binds, at)?;
     let openings = openings_of(alloc, binds, at.bound)?;
     let opened = openings.as_slice();
-    let items = count_items(opened, sets.left)?;
+    let items = count_items(opened, sets.nodes_left)?;
     let mark = entries.len();
     let scope = name_all(entries, binds, at.bound, at.scope)?;
     let inside = ExpandContext {
         scope,
         bound: at.bound + binds.len() + items,
-        left: sets.left - items,
+        nodes_left: sets.nodes_left - items,
         ..at
     };
     let body = expand(alloc, entries, body, inside)?;
     entries.truncate(mark);
-    let inner = opened_core(alloc, place, openings, body.core)?;
+    let inner = destructure_core(alloc, place, openings, body.core)?;
     let core = gather_core(alloc, place, node, sets.parts, inner)?;
     Ok(Expanded {
         core,
-        left: body.left,
+        nodes_left: body.nodes_left,
     })
 }
 
@@ -352,19 +349,19 @@ fn set_for<'a>(
 ) -> Result<Expanded, Failure>
     requires linked { AreLinked (listed entries.old) }
     requires scope { at.scope ≤ length (listed entries.old) }
-    requires small { at.bound + at.left ≤ most_named }
+    requires small { at.bound + at.nodes_left ≤ most_named }
     ensures kept { OnOk result (listed entries.new ≡ listed entries.old) }
-    ensures same { Gives at.room at.left result
+    ensures same { Gives at.depth_left at.nodes_left result
         (set_in place at.primes (scope_at (listed entries.old) at.scope) at.bound bind.entry) }
 {
     let set = expand(alloc, entries, bind.set, at)?;
     match bind.names {
         Names::Name(_) => Ok(set),
         Names::Tuple(names) => {
-            let core = tried_core(alloc, place, names.len(), set.core)?;
+            let core = check_pattern_core(alloc, place, names.len(), set.core)?;
             Ok(Expanded {
                 core,
-                left: set.left,
+                nodes_left: set.nodes_left,
             })
         }
     }
@@ -381,26 +378,26 @@ fn sets_of<'a>(
 ) -> Result<Many, Failure>
     requires linked { AreLinked (listed entries.old) }
     requires scope { at.scope ≤ length (listed entries.old) }
-    requires small { at.bound + at.left ≤ most_named }
+    requires small { at.bound + at.nodes_left ≤ most_named }
     ensures kept { OnOk result (listed entries.new ≡ listed entries.old) }
-    ensures same { GivesMany at.room at.left result
+    ensures same { GivesMany at.depth_left at.nodes_left result
         (each_of (set_in place at.primes (scope_at (listed entries.old) at.scope) at.bound)
         binds.now) }
 {
     let mut parts = Vec::new(alloc);
-    let mut left = at.left;
+    let mut nodes_left = at.nodes_left;
     for i in 0..binds.len() {
         let part = set_for(
             alloc,
             entries,
             place,
             binds[i],
-            ExpandContext { left, ..at },
+            ExpandContext { nodes_left, ..at },
         )?;
-        left = part.left;
+        nodes_left = part.nodes_left;
         push(&mut parts, part.core)?;
     }
-    Ok(Many { parts, left })
+    Ok(Many { parts, nodes_left })
 }
 
 /// One element that is opened: the bound name of this number, and the names for its items. The only error is that
@@ -451,14 +448,15 @@ fn openings_of(alloc: Global, binds: &[Bind<'_>], bound: usize) -> Result<Vec<Op
     Ok(openings)
 }
 
-/// How many items the elements are opened to, if these are at most `left` nodes.
-fn count_items(openings: &[Opening], left: usize) -> Result<usize, Failure>
-    ensures ok { IfOk result (λ n. (n ≡ items_in openings.now) × (n ≤ left)) }
-    ensures err { IfErr result (λ e. (e ≡ Failure.TooLarge) × (left < items_in openings.now)) }
+/// How many items the elements are opened to, if these are at most `nodes_left` nodes.
+fn count_items(openings: &[Opening], nodes_left: usize) -> Result<usize, Failure>
+    ensures ok { IfOk result (λ n. (n ≡ items_in openings.now) × (n ≤ nodes_left)) }
+    ensures err { IfErr result (λ e.
+        (e ≡ Failure.TooLarge) × (nodes_left < items_in openings.now)) }
 {
     let mut count = 0;
     for opening in openings {
-        if opening.items > left - count {
+        if opening.items > nodes_left - count {
             return Err(Failure::TooLarge);
         }
         count += opening.items;

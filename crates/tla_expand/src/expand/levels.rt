@@ -3,25 +3,21 @@
 
 ghost use Rattle.std.specs.Prelude.{◌≡◌, ◌≤◌, ◌<◌, ◌+◌, length, Some, OnOk, IfErr};
 ghost use Rattle.tla_core.specs.declared.fault.Place as fault;
-ghost use Rattle.tla_expand.specs.Maybe.{each_of};
-ghost use Rattle.tla_expand.specs.Primes.{settled_primes, with_primes};
-ghost use Rattle.tla_expand.specs.Scopes.{AreLinked, scope_at};
-ghost use Rattle.tla_expand.specs.Private.Forms.{form_in, tuple_parts};
+ghost use Rattle.tla_scopes.specs.Maybe.{each_of};
+ghost use Rattle.tla_scopes.specs.Primes.{settled_primes, with_primes};
+ghost use Rattle.tla_scopes.specs.Scopes.{AreLinked, scope_at};
+ghost use Rattle.tla_scopes.specs.Forms.{form_in, tuple_parts};
 ghost use Rattle.tla_expand.specs.Private.Gives.{kept_part, changed_in, part_in, both, total, highest, Fails, FailsBy, Gives, GivesTwo, SaysNone, most_named};
 ghost use Rattle.tla_model.specs.Size.{nodes, depth};
-ghost use Rattle.tla_expand.specs.Listed.{listed};
+ghost use Rattle.tla_scopes.specs.Listed.{listed};
 
-use crate::entries::Entries;
-use crate::expand::lists::each;
-use crate::expand::unchanged::{changed, kept, tuple_items, unchanged_primes};
+use crate::expand::lists::expand_all;
+use crate::expand::unchanged::{expand_changed, expand_unchanged, tuple_items, unchanged_primes};
 use crate::expand::{ExpandContext, expand, node_of, two_parts};
 use crate::expanded::{Expanded, Pair};
-use crate::failure::Failure;
-use crate::nodes::Form;
-use crate::primes::{Primes, are_fewer};
-use crate::uses::{Head, find_head};
 use std::alloc::Global;
 use tla_core::Place;
+use tla_scopes::{Entries, Failure, Form, Head, Primes, are_fewer, find_head};
 use tla_tree::Expr;
 
 /// Whether an operand is first expanded under these primes alone, so that its first refusal is found.
@@ -41,7 +37,7 @@ pub(super) fn refusal_place(reported: Option<Primes>, form: Form<'_>, place: Pla
 }
 
 /// Where a refusal of primes on a form is reported: in an action at the form, in a state at the last of them.
-fn primed_at(head: Head<'_>, outer: Primes) -> Place {
+fn primed_place(head: Head<'_>, outer: Primes) -> Place {
     match outer {
         Primes::Never => head.form.place(),
         Primes::Once | Primes::Twice => match head.primed {
@@ -53,7 +49,7 @@ fn primed_at(head: Head<'_>, outer: Primes) -> Place {
 
 /// Finds the first refusal of a form under the outer primes alone.
 #[cycle(expand)]
-fn look_at_form<'a>(
+fn check_form<'a>(
     alloc: Global,
     entries: &mut Entries<'_, 'a>,
     form: Form<'a>,
@@ -61,10 +57,10 @@ fn look_at_form<'a>(
 ) -> Result<(), Failure>
     requires linked { AreLinked (listed entries.old) }
     requires scope { at.scope ≤ length (listed entries.old) }
-    requires small { at.bound + at.left < most_named }
+    requires small { at.bound + at.nodes_left < most_named }
     ensures kept { OnOk result (listed entries.new ≡ listed entries.old) }
     ensures fails { IfErr result (λ f.
-        Fails (at.room + 1) (at.left + 1) f
+        Fails (at.depth_left + 1) (at.nodes_left + 1) f
         (with_primes at.primes
         (form_in form.entry (scope_at (listed entries.old) at.scope) at.bound))) }
 {
@@ -75,7 +71,7 @@ fn look_at_form<'a>(
 
 /// The same for expressions of one scope.
 #[cycle(expand)]
-fn look_at_each<'a>(
+fn check_each<'a>(
     alloc: Global,
     entries: &mut Entries<'_, 'a>,
     trees: &'a [Expr],
@@ -83,14 +79,14 @@ fn look_at_each<'a>(
 ) -> Result<(), Failure>
     requires linked { AreLinked (listed entries.old) }
     requires scope { at.scope ≤ length (listed entries.old) }
-    requires small { at.bound + at.left ≤ most_named }
+    requires small { at.bound + at.nodes_left ≤ most_named }
     ensures kept { OnOk result (listed entries.new ≡ listed entries.old) }
     ensures fails { IfErr result (λ f.
-        FailsBy (total nodes) (highest depth) at.room at.left f
+        FailsBy (total nodes) (highest depth) at.depth_left at.nodes_left f
         (each_of (part_in at.primes (scope_at (listed entries.old) at.scope) at.bound)
         trees.now)) }
 {
-    match each(alloc, entries, trees, at) {
+    match expand_all(alloc, entries, trees, at) {
         Ok(_) => Ok(()),
         Err(failure) => Err(failure),
     }
@@ -99,7 +95,7 @@ fn look_at_each<'a>(
 /// Examines the parts of a tuple, first under the outer primes alone, and then with those that were found on the way to
 /// it.
 #[cycle(expand)]
-fn look_at_tuple<'a>(
+fn check_tuple<'a>(
     alloc: Global,
     entries: &mut Entries<'_, 'a>,
     head: Head<'a>,
@@ -109,25 +105,25 @@ fn look_at_tuple<'a>(
 ) -> Result<(), Failure>
     requires linked { AreLinked (listed entries.old) }
     requires scope { at.scope ≤ length (listed entries.old) }
-    requires small { at.bound + at.left ≤ most_named }
+    requires small { at.bound + at.nodes_left ≤ most_named }
     requires tuple { tuple_parts head.form ≡ Some items }
     ensures kept { OnOk result (listed entries.new ≡ listed entries.old) }
     ensures fails { IfErr result (λ f.
-        Fails (at.room + 1) (at.left + 1) f
+        Fails (at.depth_left + 1) (at.nodes_left + 1) f
         (with_primes at.primes
         (form_in head.entry.form (scope_at (listed entries.old) at.scope) at.bound))) }
 {
     let trees = items.as_slice();
     if !are_fewer(outer, at.primes) {
-        return look_at_each(alloc, entries, trees, at);
+        return check_each(alloc, entries, trees, at);
     }
     let before = ExpandContext {
         primes: outer,
         ..at
     };
-    look_at_each(alloc, entries, trees, before)?;
-    match look_at_each(alloc, entries, trees, at) {
-        Err(Failure::NoExpansion(_)) => Err(Failure::NoExpansion(primed_at(head, outer))),
+    check_each(alloc, entries, trees, before)?;
+    match check_each(alloc, entries, trees, at) {
+        Err(Failure::NoExpansion(_)) => Err(Failure::NoExpansion(primed_place(head, outer))),
         Err(failure) => Err(failure),
         Ok(_) => Ok(()),
     }
@@ -135,7 +131,7 @@ fn look_at_tuple<'a>(
 
 /// The same for an expression, if operands are first expanded so.
 #[cycle(expand)]
-fn look_at<'a>(
+fn check_part<'a>(
     alloc: Global,
     entries: &mut Entries<'_, 'a>,
     tree: &'a Expr,
@@ -143,10 +139,10 @@ fn look_at<'a>(
 ) -> Result<(), Failure>
     requires linked { AreLinked (listed entries.old) }
     requires scope { at.scope ≤ length (listed entries.old) }
-    requires small { at.bound + at.left ≤ most_named }
+    requires small { at.bound + at.nodes_left ≤ most_named }
     ensures kept { OnOk result (listed entries.new ≡ listed entries.old) }
     ensures fails { IfErr result (λ f.
-        Fails at.room at.left f
+        Fails at.depth_left at.nodes_left f
         (part_in at.primes (scope_at (listed entries.old) at.scope) at.bound tree.now)) }
 {
     if !is_reported(at.reported, at.primes) {
@@ -160,7 +156,7 @@ fn look_at<'a>(
 /// The same for the operand of UNCHANGED, if operands are first expanded so. A tuple is no node of the
 /// expansion of UNCHANGED, so only its parts are examined.
 #[cycle(expand)]
-fn look_at_operand<'a>(
+fn check_operand<'a>(
     alloc: Global,
     entries: &mut Entries<'_, 'a>,
     tree: &'a Expr,
@@ -168,11 +164,11 @@ fn look_at_operand<'a>(
 ) -> Result<(), Failure>
     requires linked { AreLinked (listed entries.old) }
     requires scope { at.scope ≤ length (listed entries.old) }
-    requires small { at.bound + at.left ≤ most_named }
+    requires small { at.bound + at.nodes_left ≤ most_named }
     ensures kept { OnOk result (listed entries.new ≡ listed entries.old) }
     ensures fails { IfErr result (λ f.
         (p : fault.Place)
-        → Fails (at.room + 1) (at.left + 1) f
+        → Fails (at.depth_left + 1) (at.nodes_left + 1) f
         (kept_part (settled_primes at.primes) p (scope_at (listed entries.old) at.scope)
         at.bound tree.now)) }
 {
@@ -188,20 +184,20 @@ fn look_at_operand<'a>(
                 primes: found.primes,
                 ..at
             };
-            look_at_tuple(alloc, entries, found, items, at.primes, inside)?;
+            check_tuple(alloc, entries, found, items, at.primes, inside)?;
             entries.truncate(mark);
             Ok(())
         }
         None => {
             entries.truncate(mark);
-            look_at(alloc, entries, tree, at)
+            check_part(alloc, entries, tree, at)
         }
     }
 }
 
 /// The node of a form, with the primes that were found on the way to it, and under outer ones.
 #[cycle(expand)]
-pub(super) fn node_behind<'a>(
+pub(super) fn node_of_head<'a>(
     alloc: Global,
     entries: &mut Entries<'_, 'a>,
     head: Head<'a>,
@@ -210,9 +206,9 @@ pub(super) fn node_behind<'a>(
 ) -> Result<Expanded, Failure>
     requires linked { AreLinked (listed entries.old) }
     requires scope { at.scope ≤ length (listed entries.old) }
-    requires small { at.bound + at.left < most_named }
+    requires small { at.bound + at.nodes_left < most_named }
     ensures kept { OnOk result (listed entries.new ≡ listed entries.old) }
-    ensures same { Gives (at.room + 1) (at.left + 1) result
+    ensures same { Gives (at.depth_left + 1) (at.nodes_left + 1) result
         (with_primes at.primes
         (form_in head.entry.form (scope_at (listed entries.old) at.scope) at.bound)) }
 {
@@ -226,9 +222,9 @@ pub(super) fn node_behind<'a>(
         primes: outer,
         ..at
     };
-    look_at_form(alloc, entries, head.form, before)?;
+    check_form(alloc, entries, head.form, before)?;
     match node_of(alloc, entries, head.form, at) {
-        Err(Failure::NoExpansion(_)) => Err(Failure::NoExpansion(primed_at(head, outer))),
+        Err(Failure::NoExpansion(_)) => Err(Failure::NoExpansion(primed_place(head, outer))),
         made => made,
     }
 }
@@ -245,20 +241,20 @@ pub(super) fn unchanged_node<'a>(
 ) -> Result<Expanded, Failure>
     requires linked { AreLinked (listed entries.old) }
     requires scope { at.scope ≤ length (listed entries.old) }
-    requires small { at.bound + at.left < most_named }
+    requires small { at.bound + at.nodes_left < most_named }
     ensures kept { OnOk result (listed entries.new ≡ listed entries.old) }
-    ensures same { Gives (at.room + 1) (at.left + 1) result
+    ensures same { Gives (at.depth_left + 1) (at.nodes_left + 1) result
         (kept_part (settled_primes at.primes) place (scope_at (listed entries.old) at.scope)
         at.bound tree.now) }
 {
-    look_at_operand(alloc, entries, tree, at)?;
+    check_operand(alloc, entries, tree, at)?;
     let primes = unchanged_primes(at.primes);
-    kept(alloc, entries, place, tree, ExpandContext { primes, ..at })
+    expand_unchanged(alloc, entries, place, tree, ExpandContext { primes, ..at })
 }
 
 /// An expression twice: with these primes, and with those of the context. A refusal is reported at this place.
 #[cycle(expand)]
-pub(super) fn kept_parts<'a>(
+pub(super) fn unchanged_parts<'a>(
     alloc: Global,
     entries: &mut Entries<'_, 'a>,
     tree: &'a Expr,
@@ -268,9 +264,9 @@ pub(super) fn kept_parts<'a>(
 ) -> Result<Pair, Failure>
     requires linked { AreLinked (listed entries.old) }
     requires scope { at.scope ≤ length (listed entries.old) }
-    requires small { at.bound + at.left ≤ most_named }
+    requires small { at.bound + at.nodes_left ≤ most_named }
     ensures kept { OnOk result (listed entries.new ≡ listed entries.old) }
-    ensures same { GivesTwo at.room at.left result
+    ensures same { GivesTwo at.depth_left at.nodes_left result
         (both (part_in primes (scope_at (listed entries.old) at.scope) at.bound tree.now)
         (part_in at.primes (scope_at (listed entries.old) at.scope) at.bound tree.now)) }
 {
@@ -282,7 +278,7 @@ pub(super) fn kept_parts<'a>(
 
 /// UNCHANGED of the subscript of an action that stutters.
 #[cycle(expand)]
-pub(super) fn kept_subscript<'a>(
+pub(super) fn unchanged_subscript<'a>(
     alloc: Global,
     entries: &mut Entries<'_, 'a>,
     place: Place,
@@ -291,9 +287,9 @@ pub(super) fn kept_subscript<'a>(
 ) -> Result<Expanded, Failure>
     requires linked { AreLinked (listed entries.old) }
     requires scope { at.scope ≤ length (listed entries.old) }
-    requires small { at.bound + at.left ≤ most_named }
+    requires small { at.bound + at.nodes_left ≤ most_named }
     ensures kept { OnOk result (listed entries.new ≡ listed entries.old) }
-    ensures same { Gives at.room at.left result
+    ensures same { Gives at.depth_left at.nodes_left result
         (kept_part (settled_primes at.primes) place (scope_at (listed entries.old) at.scope)
         at.bound tree.now) }
 {
@@ -302,7 +298,7 @@ pub(super) fn kept_subscript<'a>(
 }
 
 /// Where a refusal of a changed subscript is reported: in an action at its form, in a state at this place.
-fn changed_at<'a>(
+fn changed_place<'a>(
     entries: &mut Entries<'_, 'a>,
     tree: &'a Expr,
     place: Place,
@@ -332,14 +328,14 @@ pub(super) fn changed_subscript<'a>(
 ) -> Result<Expanded, Failure>
     requires linked { AreLinked (listed entries.old) }
     requires scope { at.scope ≤ length (listed entries.old) }
-    requires small { at.bound + at.left ≤ most_named }
+    requires small { at.bound + at.nodes_left ≤ most_named }
     ensures kept { OnOk result (listed entries.new ≡ listed entries.old) }
-    ensures same { Gives at.room at.left result
+    ensures same { Gives at.depth_left at.nodes_left result
         (changed_in at.primes place (scope_at (listed entries.old) at.scope) at.bound tree.now) }
 {
-    look_at(alloc, entries, tree, at)?;
-    let report_at = changed_at(entries, tree, place, at)?;
-    match changed(alloc, entries, place, tree, at) {
+    check_part(alloc, entries, tree, at)?;
+    let report_at = changed_place(entries, tree, place, at)?;
+    match expand_changed(alloc, entries, place, tree, at) {
         Err(Failure::NoExpansion(_)) => Err(Failure::NoExpansion(report_at)),
         made => made,
     }

@@ -1,26 +1,24 @@
 //! UNCHANGED.
 
 ghost use Rattle.std.specs.Prelude.{◌≡◌, ◌≤◌, ◌<◌, ◌+◌, length, OnOk};
-ghost use Rattle.tla_expand.specs.Nodes as nodes;
-ghost use Rattle.tla_expand.specs.Maybe.{each_of};
-ghost use Rattle.tla_expand.specs.Primes.{settled_primes};
-ghost use Rattle.tla_expand.specs.Scopes.{AreLinked, scope_at};
-ghost use Rattle.tla_expand.specs.Private.Forms.{tuple_parts};
+ghost use Rattle.tla_scopes.specs.Nodes as nodes;
+ghost use Rattle.tla_scopes.specs.Maybe.{each_of};
+ghost use Rattle.tla_scopes.specs.Primes.{settled_primes};
+ghost use Rattle.tla_scopes.specs.Scopes.{AreLinked, scope_at};
+ghost use Rattle.tla_scopes.specs.Forms.{tuple_parts};
 ghost use Rattle.tla_expand.specs.Private.Gives.{kept_part, changed_in, part_in, both, made, Gives, GivesMany, most_named};
-ghost use Rattle.tla_expand.specs.Listed.{listed};
+ghost use Rattle.tla_scopes.specs.Listed.{listed};
 
-use crate::builders::{kept_core, two_core};
-use crate::entries::Entries;
-use crate::expand::levels::{changed_subscript, kept_parts, kept_subscript, refusal_place};
+use crate::builders::{two_core, unchanged_core};
+use crate::expand::levels::{
+    changed_subscript, refusal_place, unchanged_parts, unchanged_subscript,
+};
 use crate::expand::{ExpandContext, expand, two_parts};
 use crate::expanded::{Expanded, Many};
-use crate::failure::Failure;
-use crate::nodes::{BinaryNode, Form, ListNode};
 use crate::parts::boxed;
-use crate::primes::{Primes, one_more};
-use crate::uses::find_head;
 use std::alloc::Global;
 use tla_core::{Binary, Place};
+use tla_scopes::{BinaryNode, Entries, Failure, Form, ListNode, Primes, find_head, one_more};
 use tla_tree::{Expr, push};
 
 /// The primes with which UNCHANGED is read under these primes.
@@ -45,7 +43,7 @@ pub(super) fn tuple_items<'a>(form: Form<'a>) -> Option<&'a Vec<Expr>>
 
 /// UNCHANGED of an expression under these primes. The limits in the context are those of its operands.
 #[cycle(expand)]
-pub(super) fn kept<'a>(
+pub(super) fn expand_unchanged<'a>(
     alloc: Global,
     entries: &mut Entries<'_, 'a>,
     place: Place,
@@ -54,9 +52,9 @@ pub(super) fn kept<'a>(
 ) -> Result<Expanded, Failure>
     requires linked { AreLinked (listed entries.old) }
     requires scope { at.scope ≤ length (listed entries.old) }
-    requires small { at.bound + at.left < most_named }
+    requires small { at.bound + at.nodes_left < most_named }
     ensures kept { OnOk result (listed entries.new ≡ listed entries.old) }
-    ensures same { Gives (at.room + 1) (at.left + 1) result
+    ensures same { Gives (at.depth_left + 1) (at.nodes_left + 1) result
         (kept_part at.primes place (scope_at (listed entries.old) at.scope) at.bound tree.now) }
 {
     let mark = entries.len();
@@ -68,22 +66,22 @@ pub(super) fn kept<'a>(
                 primes: found.primes,
                 ..at
             };
-            let many = kept_each(alloc, entries, place, items.as_slice(), inside)?;
+            let many = expand_each_unchanged(alloc, entries, place, items.as_slice(), inside)?;
             entries.truncate(mark);
             Ok(Expanded {
-                core: kept_core(place, many.parts),
-                left: many.left,
+                core: unchanged_core(place, many.parts),
+                nodes_left: many.nodes_left,
             })
         }
         None => {
             entries.truncate(mark);
             let more = one_more(at.primes);
             let report_at = refusal_place(at.reported, found.form, place);
-            let two = kept_parts(alloc, entries, tree, more, report_at, at)?;
+            let two = unchanged_parts(alloc, entries, tree, more, report_at, at)?;
             let core = two_core(alloc, place, BinaryNode::Equal, two.first, two.second)?;
             Ok(Expanded {
                 core,
-                left: two.left,
+                nodes_left: two.nodes_left,
             })
         }
     }
@@ -91,7 +89,7 @@ pub(super) fn kept<'a>(
 
 /// UNCHANGED of expressions of one scope.
 #[cycle(expand)]
-fn kept_each<'a>(
+fn expand_each_unchanged<'a>(
     alloc: Global,
     entries: &mut Entries<'_, 'a>,
     place: Place,
@@ -100,31 +98,31 @@ fn kept_each<'a>(
 ) -> Result<Many, Failure>
     requires linked { AreLinked (listed entries.old) }
     requires scope { at.scope ≤ length (listed entries.old) }
-    requires small { at.bound + at.left ≤ most_named }
+    requires small { at.bound + at.nodes_left ≤ most_named }
     ensures kept { OnOk result (listed entries.new ≡ listed entries.old) }
-    ensures same { GivesMany at.room at.left result
+    ensures same { GivesMany at.depth_left at.nodes_left result
         (each_of (kept_part at.primes place (scope_at (listed entries.old) at.scope) at.bound)
         trees.now) }
 {
     let mut parts = Vec::new(alloc);
-    let mut left = at.left;
+    let mut nodes_left = at.nodes_left;
     for i in 0..trees.len() {
-        let part = kept_one(
+        let part = expand_one_unchanged(
             alloc,
             entries,
             place,
             &trees[i],
-            ExpandContext { left, ..at },
+            ExpandContext { nodes_left, ..at },
         )?;
-        left = part.left;
+        nodes_left = part.nodes_left;
         push(&mut parts, part.core)?;
     }
-    Ok(Many { parts, left })
+    Ok(Many { parts, nodes_left })
 }
 
 /// UNCHANGED of an expression.
 #[cycle(expand)]
-pub(super) fn kept_one<'a>(
+pub(super) fn expand_one_unchanged<'a>(
     alloc: Global,
     entries: &mut Entries<'_, 'a>,
     place: Place,
@@ -133,18 +131,18 @@ pub(super) fn kept_one<'a>(
 ) -> Result<Expanded, Failure>
     requires linked { AreLinked (listed entries.old) }
     requires scope { at.scope ≤ length (listed entries.old) }
-    requires small { at.bound + at.left ≤ most_named }
+    requires small { at.bound + at.nodes_left ≤ most_named }
     ensures kept { OnOk result (listed entries.new ≡ listed entries.old) }
-    ensures same { Gives at.room at.left result
+    ensures same { Gives at.depth_left at.nodes_left result
         (kept_part at.primes place (scope_at (listed entries.old) at.scope) at.bound tree.now) }
 {
     let inside = at.inside()?;
-    kept(alloc, entries, place, tree, inside)
+    expand_unchanged(alloc, entries, place, tree, inside)
 }
 
 /// `v' # v`.
 #[cycle(expand)]
-pub(super) fn changed<'a>(
+pub(super) fn expand_changed<'a>(
     alloc: Global,
     entries: &mut Entries<'_, 'a>,
     place: Place,
@@ -153,9 +151,9 @@ pub(super) fn changed<'a>(
 ) -> Result<Expanded, Failure>
     requires linked { AreLinked (listed entries.old) }
     requires scope { at.scope ≤ length (listed entries.old) }
-    requires small { at.bound + at.left ≤ most_named }
+    requires small { at.bound + at.nodes_left ≤ most_named }
     ensures kept { OnOk result (listed entries.new ≡ listed entries.old) }
-    ensures same { Gives at.room at.left result
+    ensures same { Gives at.depth_left at.nodes_left result
         (changed_in at.primes place (scope_at (listed entries.old) at.scope) at.bound tree.now) }
 {
     let inside = at.inside()?;
@@ -170,7 +168,7 @@ pub(super) fn changed<'a>(
     )?;
     Ok(Expanded {
         core,
-        left: two.left,
+        nodes_left: two.nodes_left,
     })
 }
 
@@ -188,22 +186,28 @@ pub(super) fn square_node<'a>(
 ) -> Result<Expanded, Failure>
     requires linked { AreLinked (listed entries.old) }
     requires scope { at.scope ≤ length (listed entries.old) }
-    requires small { at.bound + at.left ≤ most_named }
+    requires small { at.bound + at.nodes_left ≤ most_named }
     ensures kept { OnOk result (listed entries.new ≡ listed entries.old) }
-    ensures same { Gives (at.room + 1) (at.left + 1) result
+    ensures same { Gives (at.depth_left + 1) (at.nodes_left + 1) result
         (made (λ xy. nodes.two BinaryNode.Or place xy.0 xy.1)
         (both (part_in at.primes (scope_at (listed entries.old) at.scope) at.bound action.now)
         (kept_part (settled_primes at.primes) place_v
         (scope_at (listed entries.old) at.scope) at.bound v.now))) }
 {
     let action = expand(alloc, entries, action, at)?;
-    let left = action.left;
+    let nodes_left = action.nodes_left;
     let action = boxed(alloc, action.core)?;
-    let kept = kept_subscript(alloc, entries, place_v, v, ExpandContext { left, ..at })?;
+    let kept = unchanged_subscript(
+        alloc,
+        entries,
+        place_v,
+        v,
+        ExpandContext { nodes_left, ..at },
+    )?;
     let core = two_core(alloc, place, BinaryNode::Or, action, kept.core)?;
     Ok(Expanded {
         core,
-        left: kept.left,
+        nodes_left: kept.nodes_left,
     })
 }
 
@@ -221,21 +225,27 @@ pub(super) fn angle_node<'a>(
 ) -> Result<Expanded, Failure>
     requires linked { AreLinked (listed entries.old) }
     requires scope { at.scope ≤ length (listed entries.old) }
-    requires small { at.bound + at.left ≤ most_named }
+    requires small { at.bound + at.nodes_left ≤ most_named }
     ensures kept { OnOk result (listed entries.new ≡ listed entries.old) }
-    ensures same { Gives (at.room + 1) (at.left + 1) result
+    ensures same { Gives (at.depth_left + 1) (at.nodes_left + 1) result
         (made (λ xy. nodes.two BinaryNode.And place xy.0 xy.1)
         (both (part_in at.primes (scope_at (listed entries.old) at.scope) at.bound action.now)
         (changed_in at.primes place_v (scope_at (listed entries.old) at.scope) at.bound
         v.now))) }
 {
     let action = expand(alloc, entries, action, at)?;
-    let left = action.left;
+    let nodes_left = action.nodes_left;
     let action = boxed(alloc, action.core)?;
-    let changed = changed_subscript(alloc, entries, place_v, v, ExpandContext { left, ..at })?;
+    let changed = changed_subscript(
+        alloc,
+        entries,
+        place_v,
+        v,
+        ExpandContext { nodes_left, ..at },
+    )?;
     let core = two_core(alloc, place, BinaryNode::And, action, changed.core)?;
     Ok(Expanded {
         core,
-        left: changed.left,
+        nodes_left: changed.nodes_left,
     })
 }

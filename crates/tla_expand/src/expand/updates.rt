@@ -3,24 +3,21 @@
 ghost use Rattle.std.specs.Prelude.{◌≡◌, ◌≤◌, ◌<◌, ◌+◌, ◌++◌, ◌∷◌, [], length, Some, IfErr, OnOk};
 ghost use Rattle.tla_value.specs.Tree as value;
 ghost use Rattle.tla_core.specs.Expr as expr;
-ghost use Rattle.tla_expand.specs.Places as places;
-ghost use Rattle.tla_expand.specs.Maybe.{each_of};
-ghost use Rattle.tla_expand.specs.Lists.{updates_of};
-ghost use Rattle.tla_expand.specs.Scopes.{AreLinked, scope_at};
+ghost use Rattle.tla_scopes.specs.Places as places;
+ghost use Rattle.tla_scopes.specs.Maybe.{each_of};
+ghost use Rattle.tla_scopes.specs.Lists.{updates_of};
+ghost use Rattle.tla_scopes.specs.Scopes.{AreLinked, scope_at};
 ghost use Rattle.tla_expand.specs.Private.Gives.{both, made, part_in, step_in, update_in, value_in, Gives, GivesMany, GivesChange, GivesChanges, most_named};
-ghost use Rattle.tla_expand.specs.Listed.{listed};
+ghost use Rattle.tla_scopes.specs.Listed.{listed};
 
-use crate::arena::{Entry, What, enter};
-use crate::builders::{except, place_of};
-use crate::entries::Entries;
-use crate::expand::lists::key;
+use crate::builders::except;
+use crate::expand::lists::expand_argument;
 use crate::expand::{ExpandContext, expand, leaf_of};
 use crate::expanded::{Change, Changes, Expanded, Many};
-use crate::failure::Failure;
-use crate::nodes::Leaf;
 use crate::parts::boxed;
 use std::alloc::Global;
 use tla_core::{Core, Place};
+use tla_scopes::{Entries, Entry, Failure, Leaf, What, enter, place_of};
 use tla_tree::{Expr, Key, Update, Written, push};
 
 /// EXCEPT.
@@ -36,9 +33,9 @@ pub(super) fn except_node<'a>(
 ) -> Result<Expanded, Failure>
     requires linked { AreLinked (listed entries.old) }
     requires scope { at.scope ≤ length (listed entries.old) }
-    requires small { at.bound + at.left < most_named }
+    requires small { at.bound + at.nodes_left < most_named }
     ensures kept { OnOk result (listed entries.new ≡ listed entries.old) }
-    ensures same { Gives (at.room + 1) (at.left + 1) result
+    ensures same { Gives (at.depth_left + 1) (at.nodes_left + 1) result
         (made (λ xs. expr.except place xs.0 (updates_of xs.1))
         (both
         (part_in at.primes (scope_at (listed entries.old) at.scope) at.bound function.now)
@@ -46,12 +43,18 @@ pub(super) fn except_node<'a>(
         updates.now))) }
 {
     let function = expand(alloc, entries, function, at)?;
-    let left = function.left;
+    let nodes_left = function.nodes_left;
     let function = boxed(alloc, function.core)?;
-    let made = changes(alloc, entries, place, updates, ExpandContext { left, ..at })?;
+    let made = changes(
+        alloc,
+        entries,
+        place,
+        updates,
+        ExpandContext { nodes_left, ..at },
+    )?;
     Ok(Expanded {
         core: except(place, function, made.updates),
-        left: made.left,
+        nodes_left: made.nodes_left,
     })
 }
 
@@ -66,28 +69,28 @@ fn changes<'a>(
 ) -> Result<Changes, Failure>
     requires linked { AreLinked (listed entries.old) }
     requires scope { at.scope ≤ length (listed entries.old) }
-    requires small { at.bound + at.left < most_named }
+    requires small { at.bound + at.nodes_left < most_named }
     ensures kept { OnOk result (listed entries.new ≡ listed entries.old) }
-    ensures same { GivesChanges at.room at.left result
+    ensures same { GivesChanges at.depth_left at.nodes_left result
         (each_of (update_in at.primes (scope_at (listed entries.old) at.scope) at.bound)
         updates.now) }
 {
     let mut made = Vec::new(alloc);
-    let mut left = at.left;
+    let mut nodes_left = at.nodes_left;
     for i in 0..updates.len() {
         let change = change(
             alloc,
             entries,
             place,
             &updates[i],
-            ExpandContext { left, ..at },
+            ExpandContext { nodes_left, ..at },
         )?;
-        left = change.left;
+        nodes_left = change.nodes_left;
         push(&mut made, (change.path, change.value))?;
     }
     Ok(Changes {
         updates: made,
-        left,
+        nodes_left,
     })
 }
 
@@ -102,18 +105,23 @@ fn change<'a>(
 ) -> Result<Change, Failure>
     requires linked { AreLinked (listed entries.old) }
     requires scope { at.scope ≤ length (listed entries.old) }
-    requires small { at.bound + at.left < most_named }
+    requires small { at.bound + at.nodes_left < most_named }
     ensures kept { OnOk result (listed entries.new ≡ listed entries.old) }
-    ensures same { GivesChange at.room at.left result
+    ensures same { GivesChange at.depth_left at.nodes_left result
         (update_in at.primes (scope_at (listed entries.old) at.scope) at.bound update.now) }
 {
     let path = path_of(alloc, entries, place, update.path.as_slice(), at)?;
-    let left = path.left;
-    let value = new_value(alloc, entries, &update.value, ExpandContext { left, ..at })?;
+    let nodes_left = path.nodes_left;
+    let value = new_value(
+        alloc,
+        entries,
+        &update.value,
+        ExpandContext { nodes_left, ..at },
+    )?;
     Ok(Change {
         path: path.parts,
         value: value.core,
-        left: value.left,
+        nodes_left: value.nodes_left,
     })
 }
 
@@ -127,9 +135,9 @@ fn new_value<'a>(
 ) -> Result<Expanded, Failure>
     requires linked { AreLinked (listed entries.old) }
     requires scope { at.scope ≤ length (listed entries.old) }
-    requires small { at.bound + at.left < most_named }
+    requires small { at.bound + at.nodes_left < most_named }
     ensures kept { OnOk result (listed entries.new ≡ listed entries.old) }
-    ensures same { Gives at.room at.left result
+    ensures same { Gives at.depth_left at.nodes_left result
         (value_in at.primes (scope_at (listed entries.old) at.scope) at.bound value.now) }
 {
     let mark = entries.len();
@@ -160,25 +168,25 @@ fn path_of<'a>(
 ) -> Result<Many, Failure>
     requires linked { AreLinked (listed entries.old) }
     requires scope { at.scope ≤ length (listed entries.old) }
-    requires small { at.bound + at.left ≤ most_named }
+    requires small { at.bound + at.nodes_left ≤ most_named }
     ensures kept { OnOk result (listed entries.new ≡ listed entries.old) }
-    ensures same { GivesMany at.room at.left result
+    ensures same { GivesMany at.depth_left at.nodes_left result
         (each_of (step_in at.primes (scope_at (listed entries.old) at.scope) at.bound) keys.now) }
 {
     let mut parts = Vec::new(alloc);
-    let mut left = at.left;
+    let mut nodes_left = at.nodes_left;
     for i in 0..keys.len() {
         let part = step_of(
             alloc,
             entries,
             place,
             &keys[i],
-            ExpandContext { left, ..at },
+            ExpandContext { nodes_left, ..at },
         )?;
-        left = part.left;
+        nodes_left = part.nodes_left;
         push(&mut parts, part.core)?;
     }
-    Ok(Many { parts, left })
+    Ok(Many { parts, nodes_left })
 }
 
 /// A key: an argument, or the name of a field as a text.
@@ -192,23 +200,29 @@ fn step_of<'a>(
 ) -> Result<Expanded, Failure>
     requires linked { AreLinked (listed entries.old) }
     requires scope { at.scope ≤ length (listed entries.old) }
-    requires small { at.bound + at.left ≤ most_named }
+    requires small { at.bound + at.nodes_left ≤ most_named }
     ensures kept { OnOk result (listed entries.new ≡ listed entries.old) }
-    ensures same { Gives at.room at.left result
+    ensures same { Gives at.depth_left at.nodes_left result
         (step_in at.primes (scope_at (listed entries.old) at.scope) at.bound step.now) }
 {
     match step {
-        Key::Index(items) => key(alloc, entries, place, items.as_slice(), at),
+        Key::Index(items) => expand_argument(alloc, entries, place, items.as_slice(), at),
         Key::Field(name) => field_key(alloc, name, at),
     }
 }
 
 /// The name of a field, as a text.
 fn field_key(alloc: Global, name: &Written, at: ExpandContext) -> Result<Expanded, Failure>
-    ensures { Gives at.room at.left result
+    ensures { Gives at.depth_left at.nodes_left result
         (Some (expr.constant (places.place_of name.now.place) (value.text name.now.word))) }
 {
     let inside = at.inside()?;
     let place = place_of(name.place);
-    leaf_of(alloc, place, Leaf::Text(&name.word), at.primes, inside.left)
+    leaf_of(
+        alloc,
+        place,
+        Leaf::Text(&name.word),
+        at.primes,
+        inside.nodes_left,
+    )
 }

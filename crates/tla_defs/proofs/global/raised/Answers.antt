@@ -1,7 +1,7 @@
 use Rattle.std.proofs.Common.{rules, arith, ◌∙◌, ap, sym, subst, List, map}
 use Rattle.std.proofs.lemmas.Grind.{common_steps}
 use Rattle.tla_config.specs.Names.{Name}
-use Rattle.tla_expand.specs.Meanings.{standard}
+use Rattle.tla_scopes.specs.Meanings.{standard}
 use Rattle.tla_expand.specs.Names.{scope_of}
 use Rattle.tla_tree.specs.UnitsView.{unit_view}
 use Rattle.tla_names.specs.Mentions.{item_of}

@@ -1,8 +1,8 @@
 use Rattle.std.proofs.Common.{◌≢◌, refl, subst, IfErr}
 use Rattle.tla_config.specs.declared.error.DefsCode.TheVariants.{Memory}
 use Rattle.tla_core.specs.Expr as expr
-use Rattle.tla_expand.specs.declared.primes.Primes.TheVariants as read
-use Rattle.tla_expand.specs.Expand.{expand}
+use Rattle.tla_scopes.specs.declared.primes.Primes.TheVariants as read
+use Rattle.tla_scopes.specs.Expand.{expand}
 use Rattle.tla_expand.specs.Names.{scope_of}
 use Rattle.tla_tree.specs.Tree.{Tree}
 use Rattle.tla_formulas.specs.Formulas.{IsInitial}

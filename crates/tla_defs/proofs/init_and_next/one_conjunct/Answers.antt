@@ -1,6 +1,6 @@
 use Rattle.tla_core.specs.ExprOf.{expr_of}
-use Rattle.tla_expand.specs.declared.primes.Primes.TheVariants as read
-use Rattle.tla_expand.specs.Expand.{expand}
+use Rattle.tla_scopes.specs.declared.primes.Primes.TheVariants as read
+use Rattle.tla_scopes.specs.Expand.{expand}
 use Rattle.tla_expand.specs.Names.{scope_of}
 use Rattle.tla_tree.specs.View.{view}
 use Rattle.tla_formulas.proofs.Found.{found_initial, no_initial}

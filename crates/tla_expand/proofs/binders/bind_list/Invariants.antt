@@ -1,8 +1,8 @@
 use Rattle.std.proofs.Common.{◌≡◌, ◌++◌, drop, map}
 use Rattle.tla_tree.specs.View.{group_view}
 use Rattle.tla_tree.specs.Tree.{binders}
-use Rattle.tla_expand.specs.Meanings.{Scope}
-use Rattle.tla_expand.specs.Expand.{binds_of}
+use Rattle.tla_scopes.specs.Meanings.{Scope}
+use Rattle.tla_scopes.specs.Expand.{binds_of}
 use Rattle.tla_expand.specs.Private.Binders.{binds_in}
 use Rattle.tla_expand.proofs.binders.bind_list.Given as goal
 

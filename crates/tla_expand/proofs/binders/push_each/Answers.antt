@@ -1,6 +1,6 @@
 use Rattle.std.proofs.Common.{refl, arith}
 use Rattle.tla_tree.specs.View.{view}
-use Rattle.tla_expand.specs.Expand.{expand}
+use Rattle.tla_scopes.specs.Expand.{expand}
 use Rattle.tla_expand.proofs.Groups.{one_name}
 use Rattle.tla_expand.proofs.binders.push_each.Goals as goal
 

@@ -1,8 +1,8 @@
 use Rattle.std.proofs.Common.{◌≡◌, ◌++◌, [], drop}
 use Rattle.tla_tree.specs.View.{view}
-use Rattle.tla_expand.specs.Meanings.{Scope}
-use Rattle.tla_expand.specs.Bound.{bind_each}
-use Rattle.tla_expand.specs.Expand.{expand}
+use Rattle.tla_scopes.specs.Meanings.{Scope}
+use Rattle.tla_scopes.specs.Bound.{bind_each}
+use Rattle.tla_scopes.specs.Expand.{expand}
 use Rattle.tla_expand.specs.Private.Binders.{binds_in}
 use Rattle.tla_expand.proofs.binders.push_each.Given as goal
 

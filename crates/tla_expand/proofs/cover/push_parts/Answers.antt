@@ -4,11 +4,11 @@ use Rattle.tla_expand.proofs.Walking.{parts_more}
 use Rattle.tla_expand.proofs.cover.push_parts.Goals as goal
 
 pub loop-i-init : goal.loop-i-init
-loop-i-init c = record { pushed = ([], refl, sym (append-nil c.args.left.now.items)) }
+loop-i-init c = record { pushed = ([], refl, sym (append-nil c.args.remaining.now.items)) }
 
 pub loop-i-preserved : goal.loop-i-preserved
 loop-i-preserved c = record {
-  pushed = parts_more c.args.left.now.items c.loop-i.left.items c.push.new.items.items c.args.items.now c.loop-i.i c.args.scope c.args.primes _ (omega arith) c.index-items-i.is c.loop-i.invariant.pushed c.in_ok-push.ensures.ok;
+  pushed = parts_more c.args.remaining.now.items c.loop-i.remaining.items c.push.new.items.items c.args.items.now c.loop-i.i c.args.scope c.args.primes _ (omega arith) c.index-items-i.is c.loop-i.invariant.pushed c.in_ok-push.ensures.ok;
 }
 
 pub returns-clause-ok : goal.returns-clause-ok

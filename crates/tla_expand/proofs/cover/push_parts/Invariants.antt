@@ -4,5 +4,5 @@ use Rattle.tla_expand.proofs.cover.push_parts.Given as goal
 
 abbrev pub invariant-loop-i : goal.invariant-loop-i
 invariant-loop-i l = record {
-  pushed : ArePushed l.fn.left.items (take l.i l.items) l.scope l.primes l.left.items;
+  pushed : ArePushed l.fn.remaining.items (take l.i l.items) l.scope l.primes l.remaining.items;
 }

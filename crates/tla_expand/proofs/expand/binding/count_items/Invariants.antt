@@ -5,5 +5,5 @@ use Rattle.tla_expand.proofs.expand.binding.count_items.Given as goal
 abbrev pub invariant-loop-opening : goal.invariant-loop-opening
 invariant-loop-opening l = record {
   so_far : l.count + items_in (drop l.opening-index l.openings) ≡ items_in l.openings;
-  within : l.count ≤ l.left;
+  within : l.count ≤ l.nodes_left;
 }

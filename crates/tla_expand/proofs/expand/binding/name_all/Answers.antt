@@ -1,11 +1,11 @@
-use Rattle.std.proofs.Common.{◌≡◌, ℕ, ◌+◌, length, arith}
+use Rattle.std.proofs.Common.{◌≡◌, ◌+◌, length, arith}
 use Rattle.std.proofs.lemmas.Result.{IfOk-weaker, on_ok_weaker}
-use Rattle.tla_expand.specs.Meanings.{Scope, standard}
-use Rattle.tla_expand.specs.Bound.{with_elements, with_items}
+use Rattle.tla_scopes.specs.Meanings.{Scope, standard}
+use Rattle.tla_scopes.specs.Bound.{with_elements, with_items}
 use Rattle.tla_expand.specs.Private.Binders.{binds_in}
-use Rattle.tla_expand.specs.Scopes.{scope_at}
-use Rattle.tla_expand.proofs.Binds.{extends_trans}
-use Rattle.tla_expand.specs.Listed.{listed}
+use Rattle.tla_scopes.specs.Scopes.{scope_at}
+use Rattle.tla_scopes.proofs.Binds.{extends_trans}
+use Rattle.tla_scopes.specs.Listed.{listed}
 use Rattle.tla_expand.proofs.expand.binding.name_all.Goals as goal
 
 pub name_elements-requires-clause-small : goal.name_elements-requires-clause-small

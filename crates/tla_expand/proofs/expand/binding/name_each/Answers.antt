@@ -1,9 +1,9 @@
 use Rattle.std.proofs.Common.{◌∙◌, ap, sym, arith}
 use Rattle.tla_tree.specs.declared.word.Written.{Written}
-use Rattle.tla_expand.specs.Scopes.{scope_at}
-use Rattle.tla_expand.proofs.Binds.{extends_more}
+use Rattle.tla_scopes.specs.Scopes.{scope_at}
+use Rattle.tla_scopes.proofs.Binds.{extends_more}
 use Rattle.tla_expand.proofs.Groups.{each_more}
-use Rattle.tla_expand.specs.Listed.{listed}
+use Rattle.tla_scopes.specs.Listed.{listed}
 use Rattle.tla_expand.proofs.expand.binding.name_each.Goals as goal
 
 pub loop-i-preserved : goal.loop-i-preserved

@@ -1,7 +1,7 @@
 use Rattle.std.proofs.Common.{◌≡◌, ◌≤◌, ◌+◌, length, drop}
-use Rattle.tla_expand.specs.Scopes.{scope_at, AreLinked, Extends}
-use Rattle.tla_expand.specs.Bound.{with_each}
-use Rattle.tla_expand.specs.Listed.{listed}
+use Rattle.tla_scopes.specs.Scopes.{scope_at, AreLinked, Extends}
+use Rattle.tla_scopes.specs.Bound.{with_each}
+use Rattle.tla_scopes.specs.Listed.{listed}
 use Rattle.tla_expand.proofs.expand.binding.name_each.Given as goal
 
 abbrev pub invariant-loop-i : goal.invariant-loop-i

@@ -1,7 +1,6 @@
-use Rattle.std.proofs.Common.{◌≡◌, ◌≤◌, ◌∙◌, length, refl, ap, arith}
-use Rattle.std.proofs.lemmas.Result.{IfOk-weaker, on_ok_weaker}
-use Rattle.tla_expand.proofs.Binds.{extends_more, extends_self}
-use Rattle.tla_expand.specs.Listed.{listed}
+use Rattle.std.proofs.lemmas.Result.{on_ok_weaker}
+use Rattle.tla_scopes.proofs.Binds.{extends_more, extends_self}
+use Rattle.tla_scopes.specs.Listed.{listed}
 use Rattle.tla_expand.proofs.expand.binding.name_element.Goals as goal
 
 pub returns-in-Name-clause-extends : goal.returns-in-Name-clause-extends

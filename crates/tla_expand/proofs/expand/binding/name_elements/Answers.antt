@@ -1,8 +1,8 @@
 use Rattle.std.proofs.Common.{◌∙◌, arith}
-use Rattle.tla_expand.specs.Scopes.{scope_at}
-use Rattle.tla_expand.proofs.Binds.{extends_trans}
+use Rattle.tla_scopes.specs.Scopes.{scope_at}
+use Rattle.tla_scopes.proofs.Binds.{extends_trans}
 use Rattle.tla_expand.proofs.Groups.{element_step}
-use Rattle.tla_expand.specs.Listed.{listed}
+use Rattle.tla_scopes.specs.Listed.{listed}
 use Rattle.tla_expand.proofs.expand.binding.name_elements.Goals as goal
 
 pub loop-i-preserved : goal.loop-i-preserved

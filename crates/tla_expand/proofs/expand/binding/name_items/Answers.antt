@@ -1,12 +1,11 @@
-use Rattle.std.proofs.Common.{◌≡◌, ◌≤◌, ◌+◌, ◌∙◌, ℕ, length, ap, sym, arith}
-use Rattle.tla_core.specs.Patterns.{items_in}
+use Rattle.std.proofs.Common.{◌∙◌, ap, sym, arith}
 use Rattle.tla_expand.specs.declared.binders.Bind.{Bind}
 use Rattle.tla_expand.specs.Private.Binders.{names_of, item_names}
-use Rattle.tla_expand.specs.Meanings.{Scope, standard}
-use Rattle.tla_expand.specs.Scopes.{scope_at}
-use Rattle.tla_expand.proofs.Binds.{extends_trans}
+use Rattle.tla_scopes.specs.Meanings.{standard}
+use Rattle.tla_scopes.specs.Scopes.{scope_at}
+use Rattle.tla_scopes.proofs.Binds.{extends_trans}
 use Rattle.tla_expand.proofs.Groups.{item_step, left_step}
-use Rattle.tla_expand.specs.Listed.{listed}
+use Rattle.tla_scopes.specs.Listed.{listed}
 use Rattle.tla_expand.proofs.expand.binding.name_items.Goals as goal
 
 pub name_each-requires-clause-small : goal.name_each-requires-clause-small

@@ -1,11 +1,11 @@
 use Rattle.std.proofs.Common.{◌≡◌, ◌≤◌, ◌+◌, ℕ, length, drop}
 use Rattle.tla_core.specs.Patterns.{items_in}
-use Rattle.tla_expand.specs.Scopes.{scope_at, AreLinked, Extends}
-use Rattle.tla_expand.specs.Meanings.{Scope}
-use Rattle.tla_expand.specs.Bound.{with_items, openings}
+use Rattle.tla_scopes.specs.Scopes.{scope_at, AreLinked, Extends}
+use Rattle.tla_scopes.specs.Meanings.{Scope}
+use Rattle.tla_scopes.specs.Bound.{with_items, openings}
 use Rattle.tla_expand.specs.Private.Binders.{binds_in}
 use Rattle.tla_expand.specs.Private.Gives.{most_named}
-use Rattle.tla_expand.specs.Listed.{listed}
+use Rattle.tla_scopes.specs.Listed.{listed}
 use Rattle.tla_expand.proofs.expand.binding.name_items.Given as goal
 
 abbrev pub invariant-loop-i : goal.invariant-loop-i

@@ -1,6 +1,6 @@
 use Rattle.std.proofs.Common.{◌≡◌, ◌+◌, ◌++◌, drop}
-use Rattle.tla_expand.specs.Meanings.{Scope}
-use Rattle.tla_expand.specs.Bound as x
+use Rattle.tla_scopes.specs.Meanings.{Scope}
+use Rattle.tla_scopes.specs.Bound as x
 use Rattle.tla_expand.specs.Private.Binders.{binds_in}
 use Rattle.tla_expand.proofs.expand.binding.openings_of.Given as goal
 

@@ -1,5 +1,5 @@
-use Rattle.tla_expand.proofs.Links.{scope_zero}
-use Rattle.tla_expand.specs.Listed.{listed}
+use Rattle.tla_scopes.proofs.Links.{scope_zero}
+use Rattle.tla_scopes.specs.Listed.{listed}
 use Rattle.tla_expand.proofs.scopes.Scopes.anew.Goals as goal
 
 pub returns-clause-current : goal.returns-clause-current

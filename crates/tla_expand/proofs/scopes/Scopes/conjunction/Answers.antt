@@ -5,7 +5,7 @@ use Rattle.tla_tree.specs.declared.tree.Bullet.TheVariants as bullet
 use Rattle.tla_tree.specs.declared.tree.Expr as syntax
 use Rattle.tla_tree.specs.Tree.{Junction, trees}
 use Rattle.tla_tree.specs.View.{view}
-use Rattle.tla_expand.specs.Expand.{expand}
+use Rattle.tla_scopes.specs.Expand.{expand}
 use Rattle.tla_expand.specs.Names.{scope_of}
 use Rattle.tla_expand.proofs.Levels.{too_high, large_bare}
 use Rattle.tla_expand.proofs.scopes.Scopes.conjunction.Goals as goal

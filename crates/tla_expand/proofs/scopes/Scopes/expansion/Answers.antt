@@ -1,6 +1,6 @@
 use Rattle.tla_core.specs.ExprOf.{expr_of}
 use Rattle.tla_tree.specs.View.{view}
-use Rattle.tla_expand.specs.Expand.{expand}
+use Rattle.tla_scopes.specs.Expand.{expand}
 use Rattle.tla_expand.specs.Names.{scope_of}
 use Rattle.tla_expand.proofs.Levels.{too_high, large_bare}
 use Rattle.tla_expand.proofs.scopes.Scopes.expansion.Goals as goal

@@ -1,5 +1,5 @@
 use Rattle.std.proofs.Common.{[]}
-use Rattle.tla_expand.proofs.Links.{scope_zero}
+use Rattle.tla_scopes.proofs.Links.{scope_zero}
 use Rattle.tla_expand.proofs.scopes.Scopes.new.Goals as goal
 
 pub returns-clause-current : goal.returns-clause-current

@@ -1,9 +1,9 @@
 use Rattle.std.proofs.Common.{◌≡◌, subst, IfOk}
 use Rattle.tla_tree.specs.View.{definition_view}
 use Rattle.tla_expand.specs.Names.{scope_of}
-use Rattle.tla_expand.specs.Scopes.{entry_scope, scope_at}
-use Rattle.tla_expand.specs.Expand.{definition_in}
-use Rattle.tla_expand.specs.Listed.{listed}
+use Rattle.tla_scopes.specs.Scopes.{entry_scope, scope_at}
+use Rattle.tla_scopes.specs.Expand.{definition_in}
+use Rattle.tla_scopes.specs.Listed.{listed}
 use Rattle.tla_expand.proofs.scopes.Scopes.with_definition.Goals as goal
 
 pub returns-clause-ok : goal.returns-clause-ok

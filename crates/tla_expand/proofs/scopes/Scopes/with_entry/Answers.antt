@@ -1,6 +1,6 @@
 use Rattle.std.proofs.Common.{[], ◌∷◌}
-use Rattle.tla_expand.proofs.Links.{scope_keep}
-use Rattle.tla_expand.specs.Listed.{listed}
+use Rattle.tla_scopes.proofs.Links.{scope_keep}
+use Rattle.tla_scopes.specs.Listed.{listed}
 use Rattle.tla_expand.proofs.scopes.Scopes.with_entry.Goals as goal
 
 pub returns-clause-outer : goal.returns-clause-outer

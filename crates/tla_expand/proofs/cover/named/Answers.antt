@@ -1,7 +1,0 @@
-use Rattle.tla_expand.proofs.Walking.{named_is}
-use Rattle.tla_expand.specs.Listed.{listed}
-use Rattle.tla_expand.proofs.cover.named.Goals as goal
-
-pub returns-in-Name : goal.returns-in-Name
-returns-in-Name c =
-    named_is (listed c.args.entries.now) c.args.tree.now c.args.scope c.in-Name.name c.as_bytes.result.now c.position.result c.in-Name.is c.as_bytes.ensures c.position.ensures.found c.position.ensures.there

@@ -1,6 +1,0 @@
-use Rattle.std.proofs.Common.{◌≡◌, ◌+◌}
-use Rattle.tla_expand.specs.Private.Known.{depth}
-use Rattle.tla_expand.proofs.gives.depth_of.Given as goal
-
-abbrev pub invariant-loop-met : goal.invariant-loop-met
-invariant-loop-met l = record { same : l.met + depth l.at ≡ depth l.known }

@@ -1,5 +1,0 @@
-use Rattle.tla_expand.proofs.GivenWalk.{IsSought}
-use Rattle.tla_expand.proofs.gives.summary_of.Given as goal
-
-abbrev pub invariant-loop-at : goal.invariant-loop-at
-invariant-loop-at l = record { same : IsSought l.name l.known l.at }

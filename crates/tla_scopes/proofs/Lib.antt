@@ -1,0 +1,13 @@
+pub mod Primed
+pub mod Links
+pub mod Cuts
+pub mod Binds
+pub mod Steps
+pub mod Shorter
+pub mod GivenBack
+pub mod GivenWalk
+pub mod Hashes
+pub mod Indexed
+pub mod OwnForms
+pub mod EntryCosts
+pub mod Cheaper
