@@ -1,7 +1,6 @@
 //! What an expression means under a scope, and its expansion within limits.
 //!
-//! An expansion has no names of definitions, and only variables have primes. The definitions of this crate say what it
-//! is (*Specifying Systems*, chapters 15 to 17).
+//! An expansion has no names of definitions, and only variables have primes (*Specifying Systems*, chapters 15 to 17).
 #![tactic(auto)]
 
 mod binders;

@@ -1,7 +1,6 @@
 //! Scopes, which give names their meanings, and the forms to which expressions in a scope are reduced.
 //!
-//! A name is replaced by what it means until a form is reached: an operator with its operands, a variable or a
-//! constant.
+//! A name is replaced by what it means until a form is reached: an operator with its operands, a variable or a constant.
 //! The definitions of this crate say what the expansion of an expression is (*Specifying Systems*, chapters 15 to 17).
 #![tactic(auto)]
 
