@@ -19,6 +19,7 @@ pub mod Locating
 pub mod Alike
 pub mod Passes
 pub mod Visits
+pub mod Agreeing
 pub mod Scoped
 pub mod Straight
 pub mod OneScope

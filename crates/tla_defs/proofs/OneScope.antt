@@ -1,5 +1,5 @@
 -- A module whose items lead to no name of their own has one scope, which the passes make.
-use Rattle.std.proofs.Common.{◌≡◌, ◌∙◌, ℕ, zero, suc, ◌+◌, List, [], ◌∷◌, refl, sym, ap, None}
+use Rattle.std.proofs.Common.{◌≡◌, ◌∙◌, ℕ, zero, suc, List, [], ◌∷◌, refl, sym, ap, None}
 use Rattle.tla_tree.specs.Units.{UnitTree}
 use Rattle.tla_config.specs.Statements.{Statement, Item, Value, Replaces, items_of}
 use Rattle.tla_scopes.specs.Meanings.{Scope, standard}

@@ -1,5 +1,5 @@
 -- Where no item leads back to its name, passes from any two scopes come to the same scope.
-use Rattle.std.proofs.Common.{◌≡◌, ◌≤◌, ◌∙◌, ℕ, zero, suc, ◌+◌, Bool, true, false, ◌||◌, List, [], ◌∷◌, ◌++◌, length, map, inl, inr, arith, refl, sym, ap, subst, Option, Some, None}
+use Rattle.std.proofs.Common.{◌≡◌, ◌≤◌, ◌∙◌, ℕ, zero, suc, ◌+◌, Bool, true, false, ◌||◌, List, [], ◌∷◌, ◌++◌, length, map, inl, inr, arith, refl, sym, ap, subst, Option, Some, None, append-nil}
 use Rattle.std.specs.Prelude.{◌⊎◌, if◌then◌else◌, is_some}
 use Rattle.std.specs.Str.{bytes_eq}
 use Rattle.std.proofs.lemmas.Slice.Eq.{bytes_eq-Decides}
@@ -13,10 +13,10 @@ use Rattle.tla_names.specs.Maybe.{or_else}
 use Rattle.tla_names.specs.Scope as names
 use Rattle.tla_names.specs.Scope.{arity, plain, signature, extended}
 use Rattle.tla_names.specs.Constants.{constants, misused_constants}
-use Rattle.tla_names.specs.Known.{Misuse, Twice, brought, new_name, again, used, misused, misused_definition}
+use Rattle.tla_names.specs.Known.{Twice, brought, new_name, again, used, misused, misused_definition}
 use Rattle.tla_names.specs.Misuses.{misuse_from, misuse}
-use Rattle.tla_items.specs.Items.{replaced_name, replaced_names, unknown, differ, item_misused, items_misused, replaceable_of, nameable_of}
-use Rattle.tla_items.specs.References.{Reference, at_word, names_in, names_definition, names_sets, known_among, unit_references, units_references, item_reference, references, next_names, LeadsBy, IsCircular}
+use Rattle.tla_items.specs.Items.{replaced_names, unknown, differ, item_misused, items_misused, replaceable_of, nameable_of}
+use Rattle.tla_items.specs.References.{Reference, names_in, names_definition, names_sets, known_among, units_references, item_reference, references, next_names, LeadsBy, IsCircular}
 use Rattle.tla_items.specs.Cycles.{AreStraight}
 use Rattle.tla_scopes.specs.Places.{Name, at_name}
 use Rattle.tla_scopes.specs.Meanings as x
@@ -26,7 +26,8 @@ use Rattle.tla_defs.specs.Given.{fixed, with_items}
 use Rattle.tla_defs.specs.Global.{with_variable, with_operator, variables_in, unless, units_in, meant}
 use Rattle.tla_defs.proofs.Alike.{Alike, expand_alike, operator_alike, function_alike}
 use Rattle.tla_defs.proofs.Passes.{not_in_more, not_the_last}
-use Rattle.tla_defs.proofs.Scoped.{knows, at, Agree, if_first, if_second, not_first, not_second, knows_append, append_none, knows_at, none_first, none_second, operator_scoped, function_scoped, body_scoped}
+use Rattle.tla_defs.proofs.Agreeing.{knows, at, Agree, if_first, if_second, not_first, not_second, knows_append, none_first, none_second}
+use Rattle.tla_defs.proofs.Scoped.{operator_scoped, function_scoped, body_scoped}
 
 -- ---- ways
 abbrev pub Leads : List Reference → Name → Name → Type 0
@@ -277,7 +278,7 @@ module _ (R : Name → Type 0) where
 
     -- no name is brought in
     found_same : (δ : names.Scope) (us : List UnitTree) → Found δ (units_references (δ ++ []) us) → Found δ (units_references δ us)
-    found_same δ us f = subst (λ γ. Found δ (units_references γ us)) (append_none δ) f
+    found_same δ us f = subst (λ γ. Found δ (units_references γ us)) (append-nil δ) f
 
     found_more : (δ γ : names.Scope) (ls : List Reference) → Found δ ls → Found (δ ++ γ) ls
     found_more δ γ ls f = λ v g m. f v (not_known δ γ v g) m

@@ -6,9 +6,8 @@ ghost use Rattle.tla_defs.specs.GivenRows.{WithValue, WithReplacement, Cycle, Tw
 ghost use Rattle.tla_defs.specs.SpecificationRows.{Specified, SpecifiedInParts, SpecifiedByNames};
 ghost use Rattle.tla_defs.specs.NamedRows.{WithParameter, WithLet, WithoutCapture};
 
-/// If no item leads back to its name, a module has exactly one scope in which each name means its definition, and a
-/// name
-/// with an item `c <- Op` what Op means there.
+/// A well-scoped module whose items are in order has exactly one scope, in which each name means its definition, and a
+/// name with an item `c <- Op` what Op means there.
 pub fn one_scope()
     ensures has { HasScope }
     ensures only { OnlyScope }

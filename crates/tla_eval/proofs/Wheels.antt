@@ -1,7 +1,7 @@
 -- An odometer goes over all choices in their order.
 use Rattle.std.proofs.Common.{◌≡◌, ℕ, zero, suc, ◌<◌, Bool, true, false, cond, not, List, [], ◌∷◌, ◌++◌, map, drop, length, get_or, set as list_set, Bor, Option, Some, None, refl, sym, ap, subst, ◌∙◌, arith}
 use Rattle.std.specs.List.{flat_map}
-use Rattle.std.proofs.lemmas.List.{length-map, map-set, drop-map, get_or-map}
+use Rattle.std.proofs.lemmas.List.{nil_from_length, length-map, map-set, drop-map, get_or-map}
 use Rattle.tla_value.specs.Tree.{Tree, truth}
 use Rattle.tla_value.specs.TreeOf.{tree_of}
 use Rattle.tla_value.specs.declared.value.Value.{Value}
@@ -130,10 +130,6 @@ module _ (d : WheelTree) where
   one_back (suc i) (w ∷ ws) h = ap (λ us. w ∷ us) (one_back i ws (omega arith))
 
 -- ---- the same of the wheels themselves
-pub no_items : (xs : List Value) → length xs ≡ 0 → xs ≡ []
-no_items [] h = refl
-no_items (x ∷ xs) h = absurd (omega (arith, h))
-
 drop_first : (xs ys : List Value) → ys ≡ drop 1 xs → map tree_of ys ≡ drop 1 (map tree_of xs)
 drop_first xs ys e = ap (map tree_of) e ∙ sym (drop-map tree_of 1 xs)
 
@@ -162,7 +158,7 @@ module _ (i : ℕ) (ws : List WheelTree) (items : List Wheel) (r : Wheel) (below
         ∙ ap (λ (us : List WheelTree). list_set us i (map tree_of r.list.now, map tree_of r.list.now)) now
         ∙ ap (λ (w : WheelTree). list_set (turned_from (suc i) ws) i (w.1, w.1)) (sym wheel_at)
         ∙ one_back (wheel_tree r) i ws below,
-    still_none (wheel_tree r) i ws below none (others ∙ ap (map tree_of) (no_items rest.now e)),
+    still_none (wheel_tree r) i ws below none (others ∙ ap (map tree_of) (nil_from_length rest.now e)),
   )
 
 -- ---- the wheels that are made of some lists

@@ -26,8 +26,7 @@ use tla_names::{Mention, Names, Scope, refusal_of, unvalued};
 use tla_tree::{Definition, Unit, Word, Written};
 
 /// Items in the order of the configuration, and a table of the first one of each name. Contracts see the list of what
-/// they
-/// say.
+/// they say.
 #[derive(Drop)]
 pub struct Items<'a> {
     list: Vec<&'a Item>,

@@ -35,7 +35,7 @@ abbrev OpenAt : Bool → Bytes → Type 0
 OpenAt false bs = Opened bs
 OpenAt true bs = Opened (92 ∷ bs)
 
-open_at : (behind : Bool) (at : ℕ) (bs : Bytes) → end_from behind at bs ≡ None → OpenAt behind bs
+open_at : (after : Bool) (at : ℕ) (bs : Bytes) → end_from after at bs ≡ None → OpenAt after bs
 unfolding end_from
 open_at false at [] h = line [] [] nothing tt
 open_at true at [] h = cut [] [] nothing tt
@@ -62,10 +62,10 @@ open_of bs (line w rest o end) = open_string (34 ∷ w) rest (unclosed w rest o 
 open_of bs (cut w rest o end) =
     subst (λ x. BeginsWithString (34 ∷ x) (Fault OpenString 0)) (append_assoc w (92 ∷ []) rest) (open_string (34 ∷ (w ++ 92 ∷ [])) rest (unclosed_escape w rest o end))
 
-line_end : (behind : Bool) (at : ℕ) (rest : Bytes) → IsLineEnd rest → end_from behind at rest ≡ None
+line_end : (after : Bool) (at : ℕ) (rest : Bytes) → IsLineEnd rest → end_from after at rest ≡ None
 unfolding end_from
-line_end behind at [] h = refl
-line_end behind at (b ∷ rest) h = ap (λ c. if c then None else if is_quote b && not behind then Some (at + 1) else end_from (is_backslash b && not behind) (at + 1) rest) h
+line_end after at [] h = refl
+line_end after at (b ∷ rest) h = ap (λ c. if c then None else if is_quote b && not after then Some (at + 1) else end_from (is_backslash b && not after) (at + 1) rest) h
 
 lone_backslash : (at : ℕ) (rest : Bytes) → IsLineEnd rest → end_from false at (92 ∷ rest) ≡ None
 unfolding end_from

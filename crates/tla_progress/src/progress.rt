@@ -59,8 +59,7 @@ pub struct Progress<'a, R, M> {
 
 impl<'a, R: Clock + Eprint, M: Memory> Progress<'a, R, M> {
     /// A gate for a search in pieces of up to `cut` states, in a run that began at `began`. If that is `None`, it
-    /// writes
-    /// nothing.
+    /// writes nothing.
     pub fn new(
         rt: &'a R,
         memory: &'a M,

@@ -1,10 +1,10 @@
 use Rattle.std.proofs.Common.{rules, ◌≡◌, ◌<◌, ◌++◌, ◌∷◌, [], length, map, take, Bor, List, sym, ap, subst, ◌∙◌}
-use Rattle.std.proofs.lemmas.List.{length-map, get_or-map, map_more, map_push, take_all}
+use Rattle.std.proofs.lemmas.List.{nil_from_length, length-map, get_or-map, map_more, map_push, take_all}
 use Rattle.tla_value.specs.Tree.{Tree}
 use Rattle.tla_value.specs.TreeOf.{tree_of}
 use Rattle.tla_value.specs.declared.value.Value.{Value}
 use Rattle.tla_eval.specs.Private.Wheels.{WheelTree, wheel_tree, wheel_trees, AreFull, left_in}
-use Rattle.tla_eval.proofs.Wheels.{full_more, left_made, no_choice, no_items}
+use Rattle.tla_eval.proofs.Wheels.{full_more, left_made, no_choice}
 use Rattle.tla_eval.proofs.odometer.Odometer.new.Goals as goal
 
 abbrev trees : Bor (List Value) → List Tree
@@ -18,7 +18,7 @@ returns-then-is_empty-clause-ok c =
     let lists = c.args.lists.now in
     let i = c.loop-list.list-index in
     let l = c.list-item.result in
-    let none : l.now ≡ [] = no_items l.now (search rules) in
+    let none : l.now ≡ [] = nil_from_length l.now (search rules) in
     let at = get_or-map trees lists i l (trees l) c.loop-list-test.true ∙ sym (ap trees c.list-item.is) ∙ ap (map tree_of) none in
     sym (no_choice (map trees lists) i (trees l) (subst (λ n. i < n) (sym (length-map lists trees)) c.loop-list-test.true) at)
 
