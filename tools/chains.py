@@ -31,7 +31,7 @@ def main():
         for levels in said.levels:
             pathlib.Path(module).write_text(MODULE.format(levels=levels))
             for workers in (1, 2, 4):
-                text, seconds, used, memory = measured([program, module, configuration, "--workers", str(workers)])
+                text, seconds, used, memory, _ = measured([program, module, configuration, "--workers", str(workers)])
                 wrong += text != f"No error.\nLevels {levels}, states {levels}.\n"
                 each = used / levels * 1e6
                 print(f"{levels} levels, {workers} worker{'s' * (workers > 1)}: {seconds:.2f} s, {used:.2f} processor s, {memory} MiB, {each:.1f} microseconds a level", flush=True)

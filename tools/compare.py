@@ -49,13 +49,15 @@ def best(runs, words, states):
 
 def row(said, program, name, size, states, workers, files, before):
     """A row for one size and number of workers, and the microseconds a state; `before` has those of the size before."""
-    _, seconds, used, memory = best(said.runs, [program, *files, "--quiet", "--workers", workers], states)
+    ours = best(said.runs, [program, *files, "--quiet", "--workers", workers], states)
+    used, memory = ours.processor_seconds, ours.memory
     each = 1e6 * used / states
     grown = f"{each / before:.2f}" if before else ""
-    cells = [name, size, f"{states:,}", workers, f"{seconds:.2f}", f"{used:.2f}", memory, f"{each:.1f}", grown]
+    cells = [name, size, f"{states:,}", workers, f"{ours.seconds:.2f}", f"{used:.2f}", memory, f"{each:.1f}", grown]
     if said.other:
-        _, _, theirs, their_memory = best(said.runs, [said.other, *files, "--workers", workers], states)
-        cells += [f"{theirs:.2f}", their_memory, f"{used / max(theirs, 0.01):.1f}", f"{memory / max(their_memory, 1):.2f}"]
+        other = best(said.runs, [said.other, *files, "--workers", workers], states)
+        theirs, their_memory = other.processor_seconds, other.memory
+        cells += [f"{theirs:.2f}", their_memory, f"{used / max(theirs, 0.01):.2f}", f"{memory / max(their_memory, 1):.2f}"]
     return "| " + " | ".join(map(str, cells)) + " |", each
 
 

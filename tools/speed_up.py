@@ -73,7 +73,7 @@ def rows(program, runs, name, words, last):
         for run in tried:
             if run.report != f"No error.\n{last}\n":
                 raise SystemExit(f"WRONG: {name} by {workers} workers: {run.report!r}")
-        _, seconds, used, memory = min(tried, key=lambda it: it.seconds)
+        _, seconds, used, memory, _ = min(tried, key=lambda it: it.seconds)
         alone = alone or seconds
         yield f"| {name} | {workers} | {seconds:.1f} | {used:.1f} | {memory} | {alone / seconds:.2f} |"
 
