@@ -13,6 +13,12 @@ pub mod FoundOrLeft
 pub mod Tabled
 pub mod States
 pub mod Forms
+pub mod NoNext
+pub mod PrimesForm
+pub mod UnchangedForm
+pub mod MeaningsForm
+pub mod ExpandForm
+pub mod ScopedForm
 pub mod Sound
 pub mod Found
 pub mod Locating

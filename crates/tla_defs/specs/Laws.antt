@@ -39,7 +39,7 @@ OnlyModel = (us : List UnitTree) (cs : List Statement) (m n : ModelTree) → IsM
 abbrev pub NoneRefused : Type 0
 NoneRefused = (us : List UnitTree) (config : ConfigTree) (m : ModelTree) → IsModel us config.statements m → refused us config ≡ None
 
--- what a model's expressions name exists, and they are no deeper than the limit
+-- what a model's expressions name exists, and they are no deeper than the limit and well-formed
 abbrev pub IsAlwaysSound : Type 0
 IsAlwaysSound = (us : List UnitTree) (cs : List Statement) (m : ModelTree) → IsModel us cs m → IsSound m
 

@@ -23,7 +23,8 @@ pub fn none_refused()
     ensures { NoneRefused }
 {}
 
-/// What a model names exists, and its expressions are no deeper than the limit.
+/// What a model names exists, and its expressions are no deeper than the limit and well-formed. Invariants and
+/// constraints mention no next value.
 pub fn always_sound()
     ensures { IsAlwaysSound }
 {}

@@ -1,11 +1,12 @@
 -- The names of binder lists, one after the other.
-use Rattle.std.proofs.Common.{◌≡◌, ◌<◌, ◌≤◌, ℕ, suc, ◌+◌, List, [], ◌∷◌, ◌++◌, map, length, get_or, drop, refl, ap, sym, ◌∙◌, arith, add-one, drop-cons, append_assoc}
+use Rattle.std.proofs.Common.{◌≡◌, ◌<◌, ◌≤◌, ℕ, suc, ◌+◌, List, [], ◌∷◌, ◌++◌, map, length, get_or, drop, refl, ap, sym, ◌∙◌, arith, add-one, drop-cons, append_assoc, length-append}
 use Rattle.std.proofs.lemmas.List.{map-append, length-map}
 use Rattle.tla_tree.specs.declared.word.Written.{Written}
 use Rattle.tla_tree.specs.declared.tree.Binder.{Binder}
 use Rattle.tla_tree.specs.Tree.{Pattern, Each, Tuple, binders}
 use Rattle.tla_tree.specs.View.{view, pattern_view, group_view}
 use Rattle.tla_expand.specs.declared.binders.Bind.{Bind}
+use Rattle.tla_scopes.specs.declared.arena.Entry.{Entry}
 use Rattle.tla_scopes.specs.Bound as x
 use Rattle.tla_scopes.specs.Meanings.{Scope, Argument}
 use Rattle.tla_core.specs.declared.expression.Opening.{Opening}
@@ -13,7 +14,6 @@ use Rattle.tla_core.specs.Patterns.{items_in}
 use Rattle.tla_scopes.specs.Bound.{bind_each, bind_entry, with_each, with_elements, with_items, openings}
 use Rattle.tla_scopes.specs.Expand.{binds_of, expand}
 use Rattle.tla_expand.specs.Private.Binders.{names_of, binds_in, opened_at, with_element, item_names}
-use Rattle.tla_expand.specs.Private.Gives.{most_named}
 use Rattle.tla_scopes.specs.Places.{Name}
 use Rattle.tla_scopes.specs.Meanings.{with_name, bound_name}
 
@@ -49,6 +49,10 @@ one_group old new gs i g w σ whole h f m n e =
     let rest = binds_of (binders (map group_view (drop (suc i) gs))) σ in
     let e2 : old ++ bind_entry v (expand (view g.set) σ) rest ≡ whole = (rw p at e) in
     rw (n, m, q) (append_assoc old (bind_entry v (expand (view g.set) σ) []) rest ∙ ap (λ (y : List x.Bind). old ++ y) (sym (bind_entry_more v (expand (view g.set) σ) rest)) ∙ e2)
+
+-- one entry more
+pub length_more : (es new : List Entry) (e : Entry) → new ≡ es ++ e ∷ [] → length new ≡ length es + 1
+length_more es new e h = ap length h ∙ length-append es (e ∷ [])
 
 -- the next of names that are numbered from one on
 pub each_more : (ws : List Written) (i d : ℕ) (w : Written) (y : Name) (old new : Scope) → i < length ws → w ≡ get_or ws i w → y ≡ w.word → new ≡ with_name y (bound_name (d + i)) old
@@ -91,7 +95,7 @@ pub binds_length : (bs : List Bind) (σ : Scope) → length (binds_in bs σ) ≡
 binds_length bs σ = length-map bs (λ (y : Bind). (names_of y.names, expand (view y.set.now) σ))
 
 -- how many items are left: the same for every number of the first element
-pub items_same : (bs : List x.Bind) (c d : ℕ) → items_in (openings bs c) ≡ items_in (openings bs d)
+items_same : (bs : List x.Bind) (c d : ℕ) → items_in (openings bs c) ≡ items_in (openings bs d)
 items_same [] c d = refl
 items_same ((x.named y, s) ∷ bs) c d = items_same bs (c + 1) (d + 1)
 items_same ((x.tupled ws, s) ∷ bs) c d = ap (λ (n : ℕ). length ws + n) (items_same bs (c + 1) (d + 1))
@@ -102,13 +106,13 @@ left_next (x.named y) ws s bs d w =
     omega (arith, l)
 left_next (x.tupled us) ws s bs d w = rw w refl
 
-pub left_step : (bs : List Bind) (i n : ℕ) (b : Bind) (ws : List Written) (σ : Scope) (d : ℕ) → i < length bs → b ≡ get_or bs i b → ws ≡ item_names (names_of b.names)
-    → n + items_in (openings (binds_in (drop i bs) σ) d) ≤ most_named → n + length ws + items_in (openings (binds_in (drop (i + 1) bs) σ) d) ≤ most_named
-left_step bs i n b ws σ d h g w k =
+pub left_step : (bs : List Bind) (i n whole : ℕ) (b : Bind) (ws : List Written) (σ : Scope) (d : ℕ) → i < length bs → b ≡ get_or bs i b → ws ≡ item_names (names_of b.names)
+    → n + items_in (openings (binds_in (drop i bs) σ) d) ≡ whole → n + length ws + items_in (openings (binds_in (drop (i + 1) bs) σ) d) ≡ whole
+left_step bs i n whole b ws σ d h g w k =
     let p : drop i bs ≡ b ∷ drop (suc i) bs = drop-cons bs i b h ∙ ap (λ (z : Bind). z ∷ drop (suc i) bs) (sym g) in
     let q : i + 1 ≡ suc i = add-one i in
     let rest = binds_in (drop (suc i) bs) σ in
-    let l : n + items_in (openings ((names_of b.names, expand (view b.set.now) σ) ∷ rest) d) ≤ most_named = (rw p at k) in
+    let l : n + items_in (openings ((names_of b.names, expand (view b.set.now) σ) ∷ rest) d) ≡ whole = (rw p at k) in
     rw q (omega (arith, l, left_next (names_of b.names) ws (expand (view b.set.now) σ) rest d w, items_same rest d (d + 1)))
 
 -- the next of the elements that are opened

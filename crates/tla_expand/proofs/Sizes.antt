@@ -2,7 +2,6 @@
 use Rattle.std.proofs.Common.{◌≡◌, ◌≤◌, ◌<◌, ℕ, ◌+◌, List, [], ◌∷◌, length, refl, ap, arith, Option, Some, None}
 use Rattle.tla_core.specs.declared.fault.Place.{Place}
 use Rattle.tla_core.specs.declared.expression.Opening.{Opening}
-use Rattle.tla_core.specs.Patterns.{items_in}
 use Rattle.tla_scopes.specs.Bound.{under_openings}
 use Rattle.tla_scopes.specs.declared.primes.Primes.{Primes}
 use Rattle.tla_scopes.specs.Primes.{primes, with_primes}
@@ -52,7 +51,7 @@ some_node (cup p a b) = omega arith
 some_node (cap p a b) = omega arith
 some_node (minus p a b) = omega arith
 some_node (filtered p a b) = omega arith
-some_node (opened p os a) = let h = some_node a in omega (arith, h)
+some_node (opened p os a) = some_node a
 some_node (tried p k a) = some_node a
 
 pub some_depth : (e : Expr) → 0 < depth e
@@ -147,17 +146,17 @@ node_gives size deep f o x c depth_left nodes_left rest i (p, n, d) e =
     let d2 = ap depth e in
     (rw (p, e) refl, omega arith, omega arith)
 
--- a body under elements that are opened, and a set that is tried: a node more for each item, and none on a path
-pub opened_gives : (p : Place) (os : List Opening) (o : Option Expr) (y c : Expr) (depth_left nodes_left less rest : ℕ) → less + items_in os ≡ nodes_left → Given o y rest less depth_left → Some c ≡ under_openings p os (Some y) → Given (under_openings p os o) c rest nodes_left depth_left
-opened_gives p [] o y c depth_left nodes_left less rest l g e = let same : c ≡ y = cc in rw same (g.0, omega (arith, l, g.1), g.2)
-opened_gives p (n ∷ os) o y c depth_left nodes_left less rest l g e = let same : c ≡ opened p (n ∷ os) y = cc in rw (same, g.0) (refl, omega (arith, l, g.1), g.2)
+-- a body under elements that are opened: no more nodes, none on a path
+pub opened_gives : (p : Place) (os : List Opening) (o : Option Expr) (y c : Expr) (depth_left nodes_left rest : ℕ) → Given o y rest nodes_left depth_left → Some c ≡ under_openings p os (Some y) → Given (under_openings p os o) c rest nodes_left depth_left
+opened_gives p [] o y c depth_left nodes_left rest g e = let same : c ≡ y = cc in rw same g
+opened_gives p (n ∷ os) o y c depth_left nodes_left rest g e = let same : c ≡ opened p (n ∷ os) y = cc in rw (same, g.0) (refl, g.1, g.2)
 
-pub opened_fails : (p : Place) (os : List Opening) (s : Failure) (o : Option Expr) (depth_left nodes_left less : ℕ) → less + items_in os ≡ nodes_left → Fails depth_left less s o → Fails depth_left nodes_left s (under_openings p os o)
-opened_fails p [] s o depth_left nodes_left less l h = let z : less ≡ nodes_left = omega (arith, l) in rw z at h
-opened_fails p (n ∷ os) (NoExpansion q) o depth_left nodes_left less l h = rw h refl
-opened_fails p (n ∷ os) TooLarge None depth_left nodes_left less l h = λ x q m d. cc
-opened_fails p (n ∷ os) TooLarge (Some u) depth_left nodes_left less l h = λ x q m d. let w : opened p (n ∷ os) u ≡ x = cc in let w0 = ap nodes w in let w1 = ap depth w in h u refl (omega arith) (omega arith)
-opened_fails p (n ∷ os) Memory o depth_left nodes_left less l h = tt
+pub opened_fails : (p : Place) (os : List Opening) (s : Failure) (o : Option Expr) (depth_left nodes_left : ℕ) → Fails depth_left nodes_left s o → Fails depth_left nodes_left s (under_openings p os o)
+opened_fails p [] s o depth_left nodes_left h = h
+opened_fails p (n ∷ os) (NoExpansion q) o depth_left nodes_left h = rw h refl
+opened_fails p (n ∷ os) TooLarge None depth_left nodes_left h = λ x q m d. cc
+opened_fails p (n ∷ os) TooLarge (Some u) depth_left nodes_left h = λ x q m d. let w : opened p (n ∷ os) u ≡ x = cc in let w0 = ap nodes w in let w1 = ap depth w in h u refl (omega arith) (omega arith)
+opened_fails p (n ∷ os) Memory o depth_left nodes_left h = tt
 
 pub openings_primed : (k : Primes) (p : Place) (os : List Opening) (o : Option Expr) → with_primes k (under_openings p os o) ≡ under_openings p os (with_primes k o)
 openings_primed k p [] o = refl
@@ -166,9 +165,3 @@ openings_primed k p (n ∷ os) o = one (λ x. opened p (n ∷ os) x) (primes k) 
 pub opened_some : (p : Place) (os : List Opening) (e : Expr) → 0 < length os → under_openings p os (Some e) ≡ Some (opened p os e)
 opened_some p [] e h = absurd (omega arith)
 opened_some p (n ∷ os) e h = refl
-
--- too many items
-pub opened_full : (p : Place) (os : List Opening) (o : Option Expr) (depth_left nodes_left : ℕ) → nodes_left < items_in os → (e : Expr) → under_openings p os o ≡ Some e → nodes e ≤ nodes_left → depth e ≤ depth_left → ⊥
-opened_full p [] o depth_left nodes_left l e q n d = absurd (omega (arith, l))
-opened_full p (m ∷ os) None depth_left nodes_left l e q n d = cc
-opened_full p (m ∷ os) (Some u) depth_left nodes_left l e q n d = let w : opened p (m ∷ os) u ≡ e = cc in let w0 = ap nodes w in omega arith

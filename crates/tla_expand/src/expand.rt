@@ -146,7 +146,7 @@ pub(crate) fn expand<'a>(
 ) -> Result<Expanded, Failure>
     requires linked { AreLinked (listed entries.old) }
     requires scope { at.scope ≤ length (listed entries.old) }
-    requires small { at.bound + at.nodes_left ≤ most_named }
+    requires small { at.bound + at.nodes_left ≤ most_named (listed entries.old) }
     ensures kept { OnOk result (listed entries.new ≡ listed entries.old) }
     ensures same { Gives at.depth_left at.nodes_left result
         (part_in at.primes (scope_at (listed entries.old) at.scope) at.bound tree.now) }
@@ -174,7 +174,7 @@ pub(crate) fn node_of<'a>(
 ) -> Result<Expanded, Failure>
     requires linked { AreLinked (listed entries.old) }
     requires scope { at.scope ≤ length (listed entries.old) }
-    requires small { at.bound + at.nodes_left < most_named }
+    requires small { at.bound + at.nodes_left < most_named (listed entries.old) }
     ensures kept { OnOk result (listed entries.new ≡ listed entries.old) }
     ensures same { Gives (at.depth_left + 1) (at.nodes_left + 1) result
         (with_primes at.primes
@@ -249,7 +249,7 @@ fn use_node<'a>(
 ) -> Result<Expanded, Failure>
     requires linked { AreLinked (listed entries.old) }
     requires scope { at.scope ≤ length (listed entries.old) }
-    requires small { at.bound + at.nodes_left ≤ most_named }
+    requires small { at.bound + at.nodes_left ≤ most_named (listed entries.old) }
     ensures kept { OnOk result (listed entries.new ≡ listed entries.old) }
     ensures same { Gives (at.depth_left + 1) (at.nodes_left + 1) result
         (with_primes at.primes
@@ -300,7 +300,7 @@ fn one_node<'a>(
 ) -> Result<Expanded, Failure>
     requires linked { AreLinked (listed entries.old) }
     requires scope { at.scope ≤ length (listed entries.old) }
-    requires small { at.bound + at.nodes_left ≤ most_named }
+    requires small { at.bound + at.nodes_left ≤ most_named (listed entries.old) }
     ensures kept { OnOk result (listed entries.new ≡ listed entries.old) }
     ensures same { Gives (at.depth_left + 1) (at.nodes_left + 1) result
         (made (λ x. nodes.one node.entry place x)
@@ -328,7 +328,7 @@ fn two_node<'a>(
 ) -> Result<Expanded, Failure>
     requires linked { AreLinked (listed entries.old) }
     requires scope { at.scope ≤ length (listed entries.old) }
-    requires small { at.bound + at.nodes_left ≤ most_named }
+    requires small { at.bound + at.nodes_left ≤ most_named (listed entries.old) }
     ensures kept { OnOk result (listed entries.new ≡ listed entries.old) }
     ensures same { Gives (at.depth_left + 1) (at.nodes_left + 1) result
         (made (λ xy. nodes.two node place xy.0 xy.1)
@@ -364,7 +364,7 @@ fn three_node<'a>(
 ) -> Result<Expanded, Failure>
     requires linked { AreLinked (listed entries.old) }
     requires scope { at.scope ≤ length (listed entries.old) }
-    requires small { at.bound + at.nodes_left ≤ most_named }
+    requires small { at.bound + at.nodes_left ≤ most_named (listed entries.old) }
     ensures kept { OnOk result (listed entries.new ≡ listed entries.old) }
     ensures same { Gives (at.depth_left + 1) (at.nodes_left + 1) result
         (made (λ t. nodes.three node place t.0.0 t.0.1 t.1)
@@ -406,7 +406,7 @@ fn many_node<'a>(
 ) -> Result<Expanded, Failure>
     requires linked { AreLinked (listed entries.old) }
     requires scope { at.scope ≤ length (listed entries.old) }
-    requires small { at.bound + at.nodes_left ≤ most_named }
+    requires small { at.bound + at.nodes_left ≤ most_named (listed entries.old) }
     ensures kept { OnOk result (listed entries.new ≡ listed entries.old) }
     ensures same { Gives (at.depth_left + 1) (at.nodes_left + 1) result
         (made (λ xs. nodes.many node place (exprs xs))
@@ -434,7 +434,7 @@ fn index_node<'a>(
 ) -> Result<Expanded, Failure>
     requires linked { AreLinked (listed entries.old) }
     requires scope { at.scope ≤ length (listed entries.old) }
-    requires small { at.bound + at.nodes_left ≤ most_named }
+    requires small { at.bound + at.nodes_left ≤ most_named (listed entries.old) }
     ensures kept { OnOk result (listed entries.new ≡ listed entries.old) }
     ensures same { Gives (at.depth_left + 1) (at.nodes_left + 1) result
         (made (λ xy. nodes.two BinaryNode.Apply place xy.0 xy.1)
@@ -471,7 +471,7 @@ fn cases_node<'a>(
 ) -> Result<Expanded, Failure>
     requires linked { AreLinked (listed entries.old) }
     requires scope { at.scope ≤ length (listed entries.old) }
-    requires small { at.bound + at.nodes_left ≤ most_named }
+    requires small { at.bound + at.nodes_left ≤ most_named (listed entries.old) }
     ensures kept { OnOk result (listed entries.new ≡ listed entries.old) }
     ensures same { Gives (at.depth_left + 1) (at.nodes_left + 1) result
         (made (λ xs. expr.cases place (arms_with xs expr.no_arms))
@@ -498,7 +498,7 @@ fn cases_or_node<'a>(
 ) -> Result<Expanded, Failure>
     requires linked { AreLinked (listed entries.old) }
     requires scope { at.scope ≤ length (listed entries.old) }
-    requires small { at.bound + at.nodes_left ≤ most_named }
+    requires small { at.bound + at.nodes_left ≤ most_named (listed entries.old) }
     ensures kept { OnOk result (listed entries.new ≡ listed entries.old) }
     ensures same { Gives (at.depth_left + 1) (at.nodes_left + 1) result
         (made (λ xs. expr.cases place (arms_with xs.0 (expr.other xs.1)))
@@ -530,7 +530,7 @@ fn product_node<'a>(
 ) -> Result<Expanded, Failure>
     requires linked { AreLinked (listed entries.old) }
     requires scope { at.scope ≤ length (listed entries.old) }
-    requires small { at.bound + at.nodes_left ≤ most_named }
+    requires small { at.bound + at.nodes_left ≤ most_named (listed entries.old) }
     ensures kept { OnOk result (listed entries.new ≡ listed entries.old) }
     ensures same { Gives (at.depth_left + 1) (at.nodes_left + 1) result
         (made (λ xs. expr.product place (exprs (xs.0 ∷ xs.1)))
@@ -562,7 +562,7 @@ fn fields_node<'a>(
 ) -> Result<Expanded, Failure>
     requires linked { AreLinked (listed entries.old) }
     requires scope { at.scope ≤ length (listed entries.old) }
-    requires small { at.bound + at.nodes_left ≤ most_named }
+    requires small { at.bound + at.nodes_left ≤ most_named (listed entries.old) }
     ensures kept { OnOk result (listed entries.new ≡ listed entries.old) }
     ensures same { Gives (at.depth_left + 1) (at.nodes_left + 1) result
         (made (λ xs. nodes.fielded node place (fields_of xs))
@@ -589,7 +589,7 @@ fn two_parts<'a>(
 ) -> Result<Pair, Failure>
     requires linked { AreLinked (listed entries.old) }
     requires scope { at.scope ≤ length (listed entries.old) }
-    requires small { at.bound + at.nodes_left ≤ most_named }
+    requires small { at.bound + at.nodes_left ≤ most_named (listed entries.old) }
     ensures kept { OnOk result (listed entries.new ≡ listed entries.old) }
     ensures same { GivesTwo at.depth_left at.nodes_left result
         (both (part_in primes (scope_at (listed entries.old) at.scope) at.bound first.now)

@@ -1,5 +1,6 @@
 pub mod Size
 pub mod ModelTree
+pub mod WellFormed
 pub mod IsSound
 pub mod ModelOf
 pub mod Models

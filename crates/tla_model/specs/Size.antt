@@ -1,6 +1,5 @@
 -- The size of an expression: the number of its nodes, and of those on its longest path.
 use Rattle.std.specs.Prelude.{ℕ, ◌+◌, ◌≤◌, max}
-use Rattle.tla_core.specs.Patterns.{items_in}
 use Rattle.tla_core.specs.Expr.{Expr, Exprs, Fields, Arms, Updates, constant, bound, now, next, unary, binary, equal, sub_seq, enumerated, tuple, record_of, conjunction, disjunction, implies, conditional, cases, assert, for_all, for_some, choose, image, function, except, member, not_member, subset, kind_set, booleans, sequences, power, functions, records, product, cup, cap, minus, filtered, opened, tried, no_exprs, more_exprs, no_fields, more_fields, no_arms, other, more_arms, no_updates, more_updates}
 use Rattle.tla_model.specs.declared.limits.TheConstants.{MAX_NODES, MAX_PATH}
 
@@ -43,8 +42,8 @@ abbrev mutual
   nodes (cap p a b) = nodes a + nodes b + 1
   nodes (minus p a b) = nodes a + nodes b + 1
   nodes (filtered p a b) = nodes a + nodes b + 1
-  -- a pattern is part of the form that binds: each of its names counts as a node, but on no path
-  nodes (opened p os a) = nodes a + items_in os
+  -- a tuple pattern is part of the form that binds: neither it nor its names are nodes
+  nodes (opened p os a) = nodes a
   nodes (tried p k a) = nodes a
 
   pub nodes_each : Exprs → ℕ

@@ -8,7 +8,9 @@ use crate::state_predicate::StatePredicate;
 use tla_core::Core;
 use tla_value::Text;
 
-/// A model. Every expression can be evaluated: its names and variables exist, and a path has at most 300 nodes.
+/// A model. Every expression can be evaluated: its names and variables exist, a path has at most 300 nodes, each record
+/// form has each field once, and tuple patterns don't lengthen a path to more than twice its nodes. Invariants and
+/// constraints mention no next value.
 #[derive(Drop)]
 pub struct Model {
     variables: Vec<Text>,

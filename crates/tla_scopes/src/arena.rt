@@ -1,6 +1,6 @@
 //! Scopes in memory.
 
-ghost use Rattle.std.specs.Prelude.{◌≡◌, ◌≤◌, ◌<◌, length, get_or, IfSome, IfNone, IfOk, OnOk, IfErr, Some, ◌++◌, ◌∷◌, []};
+ghost use Rattle.std.specs.Prelude.{◌≡◌, ◌≤◌, ◌<◌, ◌^◌, length, get_or, IfSome, IfNone, IfOk, OnOk, IfErr, Some, ◌++◌, ◌∷◌, []};
 ghost use Rattle.tla_scopes.specs.declared.arena.Entry as arena_entry;
 ghost use Rattle.tla_scopes.specs.Meanings.{standard, with_parameters};
 ghost use Rattle.tla_scopes.specs.Scopes.{AreLinked, IsBelow, Extends, scope_at, entry_scope, meaning_of, arguments_in};
@@ -116,6 +116,7 @@ pub fn enter<'a>(entries: &mut Entries<'_, 'a>, entry: Entry<'a>) -> Result<usiz
         costs_at (listed entries.new) s
         ≡ entry_costs (costs_at (listed entries.old)) entry.entry) }
     ensures end { IfOk result (λ s. s ≡ length (listed entries.new)) }
+    ensures few { IfOk result (λ s. s < 2 ^ 62) }
     ensures own { OnOk result (lent_count entries.new ≡ lent_count entries.old) }
     ensures err { IfErr result (λ e. e ≡ Failure.Memory) }
 {

@@ -28,7 +28,7 @@ pub struct Entries<'s, 'a> {
 }
 
 impl<'s, 'a> Entries<'s, 'a> {
-    ghost use Rattle.std.specs.Prelude.{◌≡◌, ◌≤◌, ◌<◌, ◌+◌, ◌∷◌, [], length, take, get_or, OnOk, IfErr};
+    ghost use Rattle.std.specs.Prelude.{◌≡◌, ◌≤◌, ◌<◌, ◌+◌, ◌^◌, ◌∷◌, [], length, take, get_or, OnOk, IfErr};
     ghost use Rattle.tla_scopes.specs.Private.Index.{IsNode, found_at};
     ghost use Rattle.tla_scopes.specs.Listed.{listed, lent_count};
 
@@ -56,9 +56,10 @@ impl<'s, 'a> Entries<'s, 'a> {
 
     /// How many entries there are.
     pub fn len(&self) -> usize
-        ensures { result ≡ length (listed self.now) }
+        ensures same { result ≡ length (listed self.now) }
+        ensures few { result < 2 ^ 62 }
     {
-        self.known.len() + self.made.len()
+        self.known.len() + self.made.as_slice().len()
     }
 
     /// The node of an entry.

@@ -1,5 +1,5 @@
 -- What the parts of the code answer. Private contracts alone cite this.
-use Rattle.std.specs.Prelude.{◌≡◌, ◌≤◌, ℕ, ◌+◌, Bool, true, false, max, List, [], ◌∷◌, map, Option, Some, None, Result, Ok, Err}
+use Rattle.std.specs.Prelude.{◌≡◌, ◌≤◌, ℕ, ◌+◌, Bool, true, false, max, List, [], ◌∷◌, map, length, Option, Some, None, Result, Ok, Err}
 use Rattle.std.specs.Borrow.{Bor}
 use Rattle.tla_core.specs.declared.fault.Place.{Place}
 use Rattle.tla_core.specs.declared.expression.Core.{Core}
@@ -15,6 +15,7 @@ use Rattle.tla_tree.specs.declared.tree.Key.{Key}
 use Rattle.tla_tree.specs.declared.tree.Update.{Update}
 use Rattle.tla_tree.specs.Tree.{trees}
 use Rattle.tla_tree.specs.View.{view, key_view}
+use Rattle.tla_scopes.specs.declared.arena.Entry.{Entry}
 use Rattle.tla_scopes.specs.declared.failure.Failure.{Failure}
 use Rattle.tla_scopes.specs.declared.failure.Failure.TheVariants.{NoExpansion, TooLarge, Memory}
 use Rattle.tla_expand.specs.declared.expanded.Expanded.{Expanded}
@@ -38,10 +39,10 @@ use Rattle.tla_scopes.specs.Nodes.{two}
 use Rattle.tla_scopes.specs.Bound.{set_for}
 use Rattle.tla_expand.specs.Private.Binders.{names_of}
 
--- How many names may be bound around an expression and how many nodes may be left for it, both together: each name that
--- is bound takes a node.
-abbrev pub most_named : ℕ
-most_named = MAX_NODES
+-- How many names may be bound around an expression and how many nodes may be left for it, both together: a bound name
+-- has one of these entries, and an element without a name has a set, which takes a node.
+abbrev pub most_named : List Entry → ℕ
+most_named es = MAX_NODES + length es
 
 -- There is no such expansion. Memory may be refused at any time.
 abbrev pub SaysNone : Failure → Option Expr → Type 0

@@ -1,6 +1,6 @@
 //! Forms that bind names.
 
-ghost use Rattle.std.specs.Prelude.{◌≡◌, ◌≤◌, ◌<◌, ◌+◌, ◌∷◌, ◌++◌, [], ℕ, length, map, IfOk, IfErr, OnOk};
+ghost use Rattle.std.specs.Prelude.{◌≡◌, ◌≤◌, ◌<◌, ◌+◌, ◌^◌, ◌∷◌, ◌++◌, [], ℕ, length, map, IfOk, IfErr, OnOk};
 ghost use Rattle.tla_core.specs.Patterns.{items_in};
 ghost use Rattle.tla_tree.specs.View.{view, pattern_view, group_view};
 ghost use Rattle.tla_tree.specs.Tree.{binders};
@@ -48,7 +48,7 @@ pub(super) fn bound_several<'a>(
 ) -> Result<Expanded, Failure>
     requires linked { AreLinked (listed entries.old) }
     requires scope { at.scope ≤ length (listed entries.old) }
-    requires small { at.bound + at.nodes_left < most_named }
+    requires small { at.bound + at.nodes_left < most_named (listed entries.old) }
     ensures kept { OnOk result (listed entries.new ≡ listed entries.old) }
     ensures same { Gives (at.depth_left + 1) (at.nodes_left + 1) result
         (with_primes at.primes
@@ -84,7 +84,7 @@ pub(super) fn bound_one<'a>(
     requires linked { AreLinked (listed entries.old) }
     requires home { under.home ≤ length (listed entries.old) }
     requires scope { at.scope ≤ length (listed entries.old) }
-    requires small { at.bound + at.nodes_left < most_named }
+    requires small { at.bound + at.nodes_left < most_named (listed entries.old) }
     ensures kept { OnOk result (listed entries.new ≡ listed entries.old) }
     ensures same { Gives (at.depth_left + 1) (at.nodes_left + 1) result
         (with_primes at.primes
@@ -114,7 +114,7 @@ fn expand_nested<'a>(
     requires linked { AreLinked (listed entries.old) }
     requires home { under.home ≤ length (listed entries.old) }
     requires scope { at.scope ≤ length (listed entries.old) }
-    requires small { at.bound + at.nodes_left < most_named }
+    requires small { at.bound + at.nodes_left < most_named (listed entries.old) }
     ensures kept { OnOk result (listed entries.new ≡ listed entries.old) }
     ensures same { Gives (at.depth_left + 1) (at.nodes_left + 1) result
         (with_primes at.primes
@@ -154,7 +154,7 @@ fn under_element<'a>(
     requires linked { AreLinked (listed entries.old) }
     requires home { under.home ≤ length (listed entries.old) }
     requires scope { at.scope ≤ length (listed entries.old) }
-    requires small { at.bound + at.nodes_left < most_named }
+    requires small { at.bound + at.nodes_left < most_named (listed entries.old) }
     ensures kept { OnOk result (listed entries.new ≡ listed entries.old) }
     ensures same { Gives at.depth_left at.nodes_left result
         (with_primes at.primes
@@ -185,7 +185,7 @@ fn under_name<'a>(
     requires linked { AreLinked (listed entries.old) }
     requires home { under.home ≤ length (listed entries.old) }
     requires scope { at.scope ≤ length (listed entries.old) }
-    requires small { at.bound + at.nodes_left < most_named }
+    requires small { at.bound + at.nodes_left < most_named (listed entries.old) }
     ensures kept { OnOk result (listed entries.new ≡ listed entries.old) }
     ensures same { Gives at.depth_left at.nodes_left result
         (with_primes at.primes
@@ -227,7 +227,7 @@ fn under_tuple<'a>(
     requires linked { AreLinked (listed entries.old) }
     requires home { under.home ≤ length (listed entries.old) }
     requires scope { at.scope ≤ length (listed entries.old) }
-    requires small { at.bound + at.nodes_left < most_named }
+    requires small { at.bound + at.nodes_left < most_named (listed entries.old) }
     ensures kept { OnOk result (listed entries.new ≡ listed entries.old) }
     ensures same { Gives at.depth_left at.nodes_left result
         (with_primes at.primes
@@ -239,17 +239,12 @@ fn under_tuple<'a>(
         (expansion.expand (view under.entry.body.now))))
         (scope_at (listed entries.old) at.scope) at.bound)) }
 {
-    let count = names.len();
-    if count > at.nodes_left {
-        return Err(Failure::TooLarge);
-    }
     let openings = opening_of(alloc, names, at.bound)?;
     let mark = entries.len();
     let scope = name_each(entries, names, at.bound + 1, at.scope)?;
     let inside = ExpandContext {
         scope,
-        bound: at.bound + 1 + count,
-        nodes_left: at.nodes_left - count,
+        bound: at.bound + 1 + names.len(),
         ..at
     };
     let inner = expand_within(alloc, entries, under, rest, inside)?;
@@ -273,7 +268,7 @@ fn expand_within<'a>(
     requires linked { AreLinked (listed entries.old) }
     requires home { under.home ≤ length (listed entries.old) }
     requires scope { at.scope ≤ length (listed entries.old) }
-    requires small { at.bound + at.nodes_left ≤ most_named }
+    requires small { at.bound + at.nodes_left ≤ most_named (listed entries.old) }
     ensures kept { OnOk result (listed entries.new ≡ listed entries.old) }
     ensures same { Gives at.depth_left at.nodes_left result
         (with_primes at.primes
@@ -305,7 +300,7 @@ pub(super) fn gather_node<'a>(
 ) -> Result<Expanded, Failure>
     requires linked { AreLinked (listed entries.old) }
     requires scope { at.scope ≤ length (listed entries.old) }
-    requires small { at.bound + at.nodes_left ≤ most_named }
+    requires small { at.bound + at.nodes_left ≤ most_named (listed entries.old) }
     ensures kept { OnOk result (listed entries.new ≡ listed entries.old) }
     ensures same { Gives (at.depth_left + 1) (at.nodes_left + 1) result
         (with_primes at.primes
@@ -317,15 +312,13 @@ pub(super) fn gather_node<'a>(
     let binds = bind_list(alloc, groups)?;
     let binds = binds.as_slice();
     let sets = sets_of(alloc, entries, place, binds, at)?;
-    let openings = openings_of(alloc, binds, at.bound)?;
-    let opened = openings.as_slice();
-    let items = count_items(opened, sets.nodes_left)?;
     let mark = entries.len();
-    let scope = name_all(entries, binds, at.bound, at.scope)?;
+    let openings = openings_of(alloc, binds, at.bound)?;
+    let named = name_all(entries, binds, at.bound, at.scope)?;
     let inside = ExpandContext {
-        scope,
-        bound: at.bound + binds.len() + items,
-        nodes_left: sets.nodes_left - items,
+        scope: named.scope,
+        bound: named.bound,
+        nodes_left: sets.nodes_left,
         ..at
     };
     let body = expand(alloc, entries, body, inside)?;
@@ -349,7 +342,7 @@ fn set_for<'a>(
 ) -> Result<Expanded, Failure>
     requires linked { AreLinked (listed entries.old) }
     requires scope { at.scope ≤ length (listed entries.old) }
-    requires small { at.bound + at.nodes_left ≤ most_named }
+    requires small { at.bound + at.nodes_left ≤ most_named (listed entries.old) }
     ensures kept { OnOk result (listed entries.new ≡ listed entries.old) }
     ensures same { Gives at.depth_left at.nodes_left result
         (set_in place at.primes (scope_at (listed entries.old) at.scope) at.bound bind.entry) }
@@ -378,7 +371,7 @@ fn sets_of<'a>(
 ) -> Result<Many, Failure>
     requires linked { AreLinked (listed entries.old) }
     requires scope { at.scope ≤ length (listed entries.old) }
-    requires small { at.bound + at.nodes_left ≤ most_named }
+    requires small { at.bound + at.nodes_left ≤ most_named (listed entries.old) }
     ensures kept { OnOk result (listed entries.new ≡ listed entries.old) }
     ensures same { GivesMany at.depth_left at.nodes_left result
         (each_of (set_in place at.primes (scope_at (listed entries.old) at.scope) at.bound)
@@ -435,7 +428,7 @@ fn push_opening(openings: &mut Vec<Opening>, names: Names<'_>, bound: usize) -> 
 
 /// The elements that are opened, of those with numbers from `bound` on. The only error is that memory ran out.
 fn openings_of(alloc: Global, binds: &[Bind<'_>], bound: usize) -> Result<Vec<Opening>, Failure>
-    requires { bound + length binds.now ≤ most_named }
+    requires { bound + length binds.now < 2 ^ 64 }
     ensures ok { IfOk result (λ os.
         (σ : Scope) → os.items ≡ bounds.openings (binds_in binds.now σ) bound) }
     ensures err { IfErr result (λ e. e ≡ Failure.Memory) }
@@ -448,22 +441,6 @@ fn openings_of(alloc: Global, binds: &[Bind<'_>], bound: usize) -> Result<Vec<Op
     Ok(openings)
 }
 
-/// How many items the elements are opened to, if these are at most `nodes_left` nodes.
-fn count_items(openings: &[Opening], nodes_left: usize) -> Result<usize, Failure>
-    ensures ok { IfOk result (λ n. (n ≡ items_in openings.now) × (n ≤ nodes_left)) }
-    ensures err { IfErr result (λ e.
-        (e ≡ Failure.TooLarge) × (nodes_left < items_in openings.now)) }
-{
-    let mut count = 0;
-    for opening in openings {
-        if opening.items > nodes_left - count {
-            return Err(Failure::TooLarge);
-        }
-        count += opening.items;
-    }
-    Ok(count)
-}
-
 /// The scope with names that are numbered from this number on. The only error is that memory ran out.
 fn name_each<'a>(
     entries: &mut Entries<'_, 'a>,
@@ -473,10 +450,13 @@ fn name_each<'a>(
 ) -> Result<usize, Failure>
     requires linked { AreLinked (listed entries.old) }
     requires scope { scope ≤ length (listed entries.old) }
-    requires small { bound + length names.now ≤ most_named }
+    requires small { bound ≤ most_named (listed entries.old) }
     ensures linked { OnOk result (AreLinked (listed entries.new)) }
     ensures extends { OnOk result (Extends (listed entries.new) (listed entries.old)) }
     ensures within { IfOk result (λ s. s ≤ length (listed entries.new)) }
+    ensures grown { OnOk result
+        (length (listed entries.new) ≡ length (listed entries.old) + length names.now) }
+    ensures few { IfOk result (λ s. bound + length names.now < 2 ^ 64) }
     ensures same { IfOk result (λ s.
         with_each names.now bound (scope_at (listed entries.old) scope)
         ≡ scope_at (listed entries.new) s) }
@@ -494,27 +474,40 @@ fn name_each<'a>(
     Ok(at)
 }
 
+/// A scope, and how many names are bound around what is in it.
+#[derive(Clone, Copy)]
+struct Named {
+    scope: usize,
+    bound: usize,
+}
+
 /// The scope with all names: those of elements, and then those of items. The only error is that memory ran out.
 fn name_all<'a>(
     entries: &mut Entries<'_, 'a>,
     binds: &[Bind<'a>],
     bound: usize,
     scope: usize,
-) -> Result<usize, Failure>
+) -> Result<Named, Failure>
     requires linked { AreLinked (listed entries.old) }
     requires scope { scope ≤ length (listed entries.old) }
-    requires small { (σ : Scope) (d : ℕ)
-        → bound + length binds.now + items_in (bounds.openings (binds_in binds.now σ) d)
-        ≤ most_named }
+    requires few { bound + length binds.now < 2 ^ 64 }
+    requires small { bound + length binds.now ≤ most_named (listed entries.old) }
     ensures linked { OnOk result (AreLinked (listed entries.new)) }
     ensures extends { OnOk result (Extends (listed entries.new) (listed entries.old)) }
-    ensures within { IfOk result (λ s. s ≤ length (listed entries.new)) }
+    ensures within { IfOk result (λ s. s.scope ≤ length (listed entries.new)) }
+    ensures grown { IfOk result (λ s.
+        s.bound + length (listed entries.old)
+        ≤ bound + length binds.now + length (listed entries.new)) }
+    ensures bound { IfOk result (λ s.
+        (σ : Scope) (d : ℕ)
+        → s.bound
+        ≡ bound + length binds.now + items_in (bounds.openings (binds_in binds.now σ) d)) }
     ensures same { IfOk result (λ s.
         (σ : Scope)
         → bounds.with_items (binds_in binds.now σ) (bound + length binds.now)
         (bounds.with_elements (binds_in binds.now σ) bound
         (scope_at (listed entries.old) scope))
-        ≡ scope_at (listed entries.new) s) }
+        ≡ scope_at (listed entries.new) s.scope) }
     ensures err { IfErr result (λ e. e ≡ Failure.Memory) }
 {
     let scope = name_elements(entries, binds, bound, scope)?;
@@ -560,7 +553,7 @@ fn name_elements<'a>(
 ) -> Result<usize, Failure>
     requires linked { AreLinked (listed entries.old) }
     requires scope { scope ≤ length (listed entries.old) }
-    requires small { bound + length binds.now ≤ most_named }
+    requires few { bound + length binds.now < 2 ^ 64 }
     ensures linked { OnOk result (AreLinked (listed entries.new)) }
     ensures extends { OnOk result (Extends (listed entries.new) (listed entries.old)) }
     ensures within { IfOk result (λ s. s ≤ length (listed entries.new)) }
@@ -595,18 +588,22 @@ fn name_items<'a>(
     binds: &[Bind<'a>],
     bound: usize,
     scope: usize,
-) -> Result<usize, Failure>
+) -> Result<Named, Failure>
     requires linked { AreLinked (listed entries.old) }
     requires scope { scope ≤ length (listed entries.old) }
-    requires small { (σ : Scope) (d : ℕ)
-        → bound + items_in (bounds.openings (binds_in binds.now σ) d) ≤ most_named }
+    requires small { bound ≤ most_named (listed entries.old) }
     ensures linked { OnOk result (AreLinked (listed entries.new)) }
     ensures extends { OnOk result (Extends (listed entries.new) (listed entries.old)) }
-    ensures within { IfOk result (λ s. s ≤ length (listed entries.new)) }
+    ensures within { IfOk result (λ s. s.scope ≤ length (listed entries.new)) }
+    ensures grown { IfOk result (λ s.
+        s.bound + length (listed entries.old) ≡ bound + length (listed entries.new)) }
+    ensures bound { IfOk result (λ s.
+        (σ : Scope) (d : ℕ)
+        → s.bound ≡ bound + items_in (bounds.openings (binds_in binds.now σ) d)) }
     ensures same { IfOk result (λ s.
         (σ : Scope)
         → bounds.with_items (binds_in binds.now σ) bound (scope_at (listed entries.old) scope)
-        ≡ scope_at (listed entries.new) s) }
+        ≡ scope_at (listed entries.new) s.scope) }
     ensures err { IfErr result (λ e. e ≡ Failure.Memory) }
 {
     let mut at = scope;
@@ -616,5 +613,8 @@ fn name_items<'a>(
         at = name_each(entries, names, next, at)?;
         next += names.len();
     }
-    Ok(at)
+    Ok(Named {
+        scope: at,
+        bound: next,
+    })
 }

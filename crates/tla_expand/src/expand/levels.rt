@@ -57,7 +57,7 @@ fn check_form<'a>(
 ) -> Result<(), Failure>
     requires linked { AreLinked (listed entries.old) }
     requires scope { at.scope ≤ length (listed entries.old) }
-    requires small { at.bound + at.nodes_left < most_named }
+    requires small { at.bound + at.nodes_left < most_named (listed entries.old) }
     ensures kept { OnOk result (listed entries.new ≡ listed entries.old) }
     ensures fails { IfErr result (λ f.
         Fails (at.depth_left + 1) (at.nodes_left + 1) f
@@ -79,7 +79,7 @@ fn check_each<'a>(
 ) -> Result<(), Failure>
     requires linked { AreLinked (listed entries.old) }
     requires scope { at.scope ≤ length (listed entries.old) }
-    requires small { at.bound + at.nodes_left ≤ most_named }
+    requires small { at.bound + at.nodes_left ≤ most_named (listed entries.old) }
     ensures kept { OnOk result (listed entries.new ≡ listed entries.old) }
     ensures fails { IfErr result (λ f.
         FailsBy (total nodes) (highest depth) at.depth_left at.nodes_left f
@@ -105,7 +105,7 @@ fn check_tuple<'a>(
 ) -> Result<(), Failure>
     requires linked { AreLinked (listed entries.old) }
     requires scope { at.scope ≤ length (listed entries.old) }
-    requires small { at.bound + at.nodes_left ≤ most_named }
+    requires small { at.bound + at.nodes_left ≤ most_named (listed entries.old) }
     requires tuple { tuple_parts head.form ≡ Some items }
     ensures kept { OnOk result (listed entries.new ≡ listed entries.old) }
     ensures fails { IfErr result (λ f.
@@ -139,7 +139,7 @@ fn check_part<'a>(
 ) -> Result<(), Failure>
     requires linked { AreLinked (listed entries.old) }
     requires scope { at.scope ≤ length (listed entries.old) }
-    requires small { at.bound + at.nodes_left ≤ most_named }
+    requires small { at.bound + at.nodes_left ≤ most_named (listed entries.old) }
     ensures kept { OnOk result (listed entries.new ≡ listed entries.old) }
     ensures fails { IfErr result (λ f.
         Fails at.depth_left at.nodes_left f
@@ -164,7 +164,7 @@ fn check_operand<'a>(
 ) -> Result<(), Failure>
     requires linked { AreLinked (listed entries.old) }
     requires scope { at.scope ≤ length (listed entries.old) }
-    requires small { at.bound + at.nodes_left ≤ most_named }
+    requires small { at.bound + at.nodes_left ≤ most_named (listed entries.old) }
     ensures kept { OnOk result (listed entries.new ≡ listed entries.old) }
     ensures fails { IfErr result (λ f.
         (p : fault.Place)
@@ -206,7 +206,7 @@ pub(super) fn node_of_head<'a>(
 ) -> Result<Expanded, Failure>
     requires linked { AreLinked (listed entries.old) }
     requires scope { at.scope ≤ length (listed entries.old) }
-    requires small { at.bound + at.nodes_left < most_named }
+    requires small { at.bound + at.nodes_left < most_named (listed entries.old) }
     ensures kept { OnOk result (listed entries.new ≡ listed entries.old) }
     ensures same { Gives (at.depth_left + 1) (at.nodes_left + 1) result
         (with_primes at.primes
@@ -241,7 +241,7 @@ pub(super) fn unchanged_node<'a>(
 ) -> Result<Expanded, Failure>
     requires linked { AreLinked (listed entries.old) }
     requires scope { at.scope ≤ length (listed entries.old) }
-    requires small { at.bound + at.nodes_left < most_named }
+    requires small { at.bound + at.nodes_left < most_named (listed entries.old) }
     ensures kept { OnOk result (listed entries.new ≡ listed entries.old) }
     ensures same { Gives (at.depth_left + 1) (at.nodes_left + 1) result
         (kept_part (settled_primes at.primes) place (scope_at (listed entries.old) at.scope)
@@ -264,7 +264,7 @@ pub(super) fn unchanged_parts<'a>(
 ) -> Result<Pair, Failure>
     requires linked { AreLinked (listed entries.old) }
     requires scope { at.scope ≤ length (listed entries.old) }
-    requires small { at.bound + at.nodes_left ≤ most_named }
+    requires small { at.bound + at.nodes_left ≤ most_named (listed entries.old) }
     ensures kept { OnOk result (listed entries.new ≡ listed entries.old) }
     ensures same { GivesTwo at.depth_left at.nodes_left result
         (both (part_in primes (scope_at (listed entries.old) at.scope) at.bound tree.now)
@@ -287,7 +287,7 @@ pub(super) fn unchanged_subscript<'a>(
 ) -> Result<Expanded, Failure>
     requires linked { AreLinked (listed entries.old) }
     requires scope { at.scope ≤ length (listed entries.old) }
-    requires small { at.bound + at.nodes_left ≤ most_named }
+    requires small { at.bound + at.nodes_left ≤ most_named (listed entries.old) }
     ensures kept { OnOk result (listed entries.new ≡ listed entries.old) }
     ensures same { Gives at.depth_left at.nodes_left result
         (kept_part (settled_primes at.primes) place (scope_at (listed entries.old) at.scope)
@@ -328,7 +328,7 @@ pub(super) fn changed_subscript<'a>(
 ) -> Result<Expanded, Failure>
     requires linked { AreLinked (listed entries.old) }
     requires scope { at.scope ≤ length (listed entries.old) }
-    requires small { at.bound + at.nodes_left ≤ most_named }
+    requires small { at.bound + at.nodes_left ≤ most_named (listed entries.old) }
     ensures kept { OnOk result (listed entries.new ≡ listed entries.old) }
     ensures same { Gives at.depth_left at.nodes_left result
         (changed_in at.primes place (scope_at (listed entries.old) at.scope) at.bound tree.now) }

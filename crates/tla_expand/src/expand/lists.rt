@@ -27,7 +27,7 @@ pub(super) fn expand_all<'a>(
 ) -> Result<Many, Failure>
     requires linked { AreLinked (listed entries.old) }
     requires scope { at.scope ≤ length (listed entries.old) }
-    requires small { at.bound + at.nodes_left ≤ most_named }
+    requires small { at.bound + at.nodes_left ≤ most_named (listed entries.old) }
     ensures kept { OnOk result (listed entries.new ≡ listed entries.old) }
     ensures same { GivesMany at.depth_left at.nodes_left result
         (each_of (part_in at.primes (scope_at (listed entries.old) at.scope) at.bound)
@@ -59,7 +59,7 @@ pub(super) fn expand_argument<'a>(
 ) -> Result<Expanded, Failure>
     requires linked { AreLinked (listed entries.old) }
     requires scope { at.scope ≤ length (listed entries.old) }
-    requires small { at.bound + at.nodes_left ≤ most_named }
+    requires small { at.bound + at.nodes_left ≤ most_named (listed entries.old) }
     ensures kept { OnOk result (listed entries.new ≡ listed entries.old) }
     ensures same { Gives at.depth_left at.nodes_left result
         (key_in at.primes (scope_at (listed entries.old) at.scope) at.bound items.now) }
@@ -85,7 +85,7 @@ fn tuple_of<'a>(
 ) -> Result<Expanded, Failure>
     requires linked { AreLinked (listed entries.old) }
     requires scope { at.scope ≤ length (listed entries.old) }
-    requires small { at.bound + at.nodes_left ≤ most_named }
+    requires small { at.bound + at.nodes_left ≤ most_named (listed entries.old) }
     ensures kept { OnOk result (listed entries.new ≡ listed entries.old) }
     ensures same { Gives at.depth_left at.nodes_left result
         (made (λ xs. expr.tuple place (exprs xs))
@@ -111,7 +111,7 @@ pub(super) fn arms_of<'a>(
 ) -> Result<Arms, Failure>
     requires linked { AreLinked (listed entries.old) }
     requires scope { at.scope ≤ length (listed entries.old) }
-    requires small { at.bound + at.nodes_left ≤ most_named }
+    requires small { at.bound + at.nodes_left ≤ most_named (listed entries.old) }
     ensures kept { OnOk result (listed entries.new ≡ listed entries.old) }
     ensures same { GivesArms at.depth_left at.nodes_left result
         (each_of (arm_in at.primes (scope_at (listed entries.old) at.scope) at.bound) arms.now) }
@@ -141,7 +141,7 @@ pub(super) fn named_parts<'a>(
 ) -> Result<Fields, Failure>
     requires linked { AreLinked (listed entries.old) }
     requires scope { at.scope ≤ length (listed entries.old) }
-    requires small { at.bound + at.nodes_left ≤ most_named }
+    requires small { at.bound + at.nodes_left ≤ most_named (listed entries.old) }
     ensures kept { OnOk result (listed entries.new ≡ listed entries.old) }
     ensures same { GivesFields at.depth_left at.nodes_left result
         (each_of (field_in at.primes (scope_at (listed entries.old) at.scope) at.bound)

@@ -52,7 +52,7 @@ pub(super) fn expand_unchanged<'a>(
 ) -> Result<Expanded, Failure>
     requires linked { AreLinked (listed entries.old) }
     requires scope { at.scope ≤ length (listed entries.old) }
-    requires small { at.bound + at.nodes_left < most_named }
+    requires small { at.bound + at.nodes_left < most_named (listed entries.old) }
     ensures kept { OnOk result (listed entries.new ≡ listed entries.old) }
     ensures same { Gives (at.depth_left + 1) (at.nodes_left + 1) result
         (kept_part at.primes place (scope_at (listed entries.old) at.scope) at.bound tree.now) }
@@ -98,7 +98,7 @@ fn expand_each_unchanged<'a>(
 ) -> Result<Many, Failure>
     requires linked { AreLinked (listed entries.old) }
     requires scope { at.scope ≤ length (listed entries.old) }
-    requires small { at.bound + at.nodes_left ≤ most_named }
+    requires small { at.bound + at.nodes_left ≤ most_named (listed entries.old) }
     ensures kept { OnOk result (listed entries.new ≡ listed entries.old) }
     ensures same { GivesMany at.depth_left at.nodes_left result
         (each_of (kept_part at.primes place (scope_at (listed entries.old) at.scope) at.bound)
@@ -131,7 +131,7 @@ pub(super) fn expand_one_unchanged<'a>(
 ) -> Result<Expanded, Failure>
     requires linked { AreLinked (listed entries.old) }
     requires scope { at.scope ≤ length (listed entries.old) }
-    requires small { at.bound + at.nodes_left ≤ most_named }
+    requires small { at.bound + at.nodes_left ≤ most_named (listed entries.old) }
     ensures kept { OnOk result (listed entries.new ≡ listed entries.old) }
     ensures same { Gives at.depth_left at.nodes_left result
         (kept_part at.primes place (scope_at (listed entries.old) at.scope) at.bound tree.now) }
@@ -151,7 +151,7 @@ pub(super) fn expand_changed<'a>(
 ) -> Result<Expanded, Failure>
     requires linked { AreLinked (listed entries.old) }
     requires scope { at.scope ≤ length (listed entries.old) }
-    requires small { at.bound + at.nodes_left ≤ most_named }
+    requires small { at.bound + at.nodes_left ≤ most_named (listed entries.old) }
     ensures kept { OnOk result (listed entries.new ≡ listed entries.old) }
     ensures same { Gives at.depth_left at.nodes_left result
         (changed_in at.primes place (scope_at (listed entries.old) at.scope) at.bound tree.now) }
@@ -186,7 +186,7 @@ pub(super) fn square_node<'a>(
 ) -> Result<Expanded, Failure>
     requires linked { AreLinked (listed entries.old) }
     requires scope { at.scope ≤ length (listed entries.old) }
-    requires small { at.bound + at.nodes_left ≤ most_named }
+    requires small { at.bound + at.nodes_left ≤ most_named (listed entries.old) }
     ensures kept { OnOk result (listed entries.new ≡ listed entries.old) }
     ensures same { Gives (at.depth_left + 1) (at.nodes_left + 1) result
         (made (λ xy. nodes.two BinaryNode.Or place xy.0 xy.1)
@@ -225,7 +225,7 @@ pub(super) fn angle_node<'a>(
 ) -> Result<Expanded, Failure>
     requires linked { AreLinked (listed entries.old) }
     requires scope { at.scope ≤ length (listed entries.old) }
-    requires small { at.bound + at.nodes_left ≤ most_named }
+    requires small { at.bound + at.nodes_left ≤ most_named (listed entries.old) }
     ensures kept { OnOk result (listed entries.new ≡ listed entries.old) }
     ensures same { Gives (at.depth_left + 1) (at.nodes_left + 1) result
         (made (λ xy. nodes.two BinaryNode.And place xy.0 xy.1)

@@ -33,7 +33,7 @@ pub(super) fn except_node<'a>(
 ) -> Result<Expanded, Failure>
     requires linked { AreLinked (listed entries.old) }
     requires scope { at.scope ≤ length (listed entries.old) }
-    requires small { at.bound + at.nodes_left < most_named }
+    requires small { at.bound + at.nodes_left < most_named (listed entries.old) }
     ensures kept { OnOk result (listed entries.new ≡ listed entries.old) }
     ensures same { Gives (at.depth_left + 1) (at.nodes_left + 1) result
         (made (λ xs. expr.except place xs.0 (updates_of xs.1))
@@ -69,7 +69,7 @@ fn changes<'a>(
 ) -> Result<Changes, Failure>
     requires linked { AreLinked (listed entries.old) }
     requires scope { at.scope ≤ length (listed entries.old) }
-    requires small { at.bound + at.nodes_left < most_named }
+    requires small { at.bound + at.nodes_left < most_named (listed entries.old) }
     ensures kept { OnOk result (listed entries.new ≡ listed entries.old) }
     ensures same { GivesChanges at.depth_left at.nodes_left result
         (each_of (update_in at.primes (scope_at (listed entries.old) at.scope) at.bound)
@@ -105,7 +105,7 @@ fn change<'a>(
 ) -> Result<Change, Failure>
     requires linked { AreLinked (listed entries.old) }
     requires scope { at.scope ≤ length (listed entries.old) }
-    requires small { at.bound + at.nodes_left < most_named }
+    requires small { at.bound + at.nodes_left < most_named (listed entries.old) }
     ensures kept { OnOk result (listed entries.new ≡ listed entries.old) }
     ensures same { GivesChange at.depth_left at.nodes_left result
         (update_in at.primes (scope_at (listed entries.old) at.scope) at.bound update.now) }
@@ -135,7 +135,7 @@ fn new_value<'a>(
 ) -> Result<Expanded, Failure>
     requires linked { AreLinked (listed entries.old) }
     requires scope { at.scope ≤ length (listed entries.old) }
-    requires small { at.bound + at.nodes_left < most_named }
+    requires small { at.bound + at.nodes_left < most_named (listed entries.old) }
     ensures kept { OnOk result (listed entries.new ≡ listed entries.old) }
     ensures same { Gives at.depth_left at.nodes_left result
         (value_in at.primes (scope_at (listed entries.old) at.scope) at.bound value.now) }
@@ -168,7 +168,7 @@ fn path_of<'a>(
 ) -> Result<Many, Failure>
     requires linked { AreLinked (listed entries.old) }
     requires scope { at.scope ≤ length (listed entries.old) }
-    requires small { at.bound + at.nodes_left ≤ most_named }
+    requires small { at.bound + at.nodes_left ≤ most_named (listed entries.old) }
     ensures kept { OnOk result (listed entries.new ≡ listed entries.old) }
     ensures same { GivesMany at.depth_left at.nodes_left result
         (each_of (step_in at.primes (scope_at (listed entries.old) at.scope) at.bound) keys.now) }
@@ -200,7 +200,7 @@ fn step_of<'a>(
 ) -> Result<Expanded, Failure>
     requires linked { AreLinked (listed entries.old) }
     requires scope { at.scope ≤ length (listed entries.old) }
-    requires small { at.bound + at.nodes_left ≤ most_named }
+    requires small { at.bound + at.nodes_left ≤ most_named (listed entries.old) }
     ensures kept { OnOk result (listed entries.new ≡ listed entries.old) }
     ensures same { Gives at.depth_left at.nodes_left result
         (step_in at.primes (scope_at (listed entries.old) at.scope) at.bound step.now) }

@@ -26,12 +26,11 @@ use Rattle.tla_expand.specs.Private.Gives.{Gives, Fails, part_in, arm_in, field_
 use Rattle.tla_scopes.specs.Forms.{form_in}
 use Rattle.tla_expand.proofs.Levels.{look_fails, unchanged_fails, explains_none, tuple_operand_fails, plain_operand_fails, changed_fails, tuple_looked}
 use Rattle.tla_scopes.proofs.Steps.{if_fails}
-use Rattle.tla_expand.proofs.Sizes.{Given, first_fails, second_fails, two_give, node_fails, node_gives, openings_primed, opened_gives, opened_fails, opened_full}
+use Rattle.tla_expand.proofs.Sizes.{Given, first_fails, second_fails, two_give, node_fails, node_gives, openings_primed, opened_gives, opened_fails}
 use Rattle.tla_expand.proofs.Lists.{part_done, part_fails, all_done, total_more, highest_more}
 use Rattle.tla_expand.proofs.Made.{two_larger, three_larger, many_larger, cases_larger, cases_or_larger, fielded_larger, product_larger, except_larger, Triple}
 use Rattle.tla_scopes.proofs.Links.{cut_back, home_keep, bind_scope}
 use Rattle.tla_scopes.proofs.Binds.{scope_extends, extends_length}
-use Rattle.tla_expand.proofs.Groups.{items_same}
 use Rattle.tla_expand.proofs.Plain.{plain_head, tuple_fails, tuple_gives, equal_fails, equal_gives}
 use Rattle.tla_expand.proofs.Nested.{inner_fails, nested_gives}
 use Rattle.tla_expand.proofs.NamedParts.{field_some, field_fails}
@@ -433,7 +432,7 @@ binding::under_tuple-returns-in_err-inner-clause-same t c =
     let os = opening c.args.at.bound ws ∷ [] in
     let o = last_or bs (expand (view u.body.now)) (nested u.node u.place bs (expand (view u.body.now))) (with_each ws (c.args.at.bound + 1) (scope_at old c.args.at.scope)) (c.args.at.bound + 1 + length ws) in
     let f = rw (h, ← c.in_ok-scope.ensures.same) at c.in_err-inner.ensures.same in
-    rw (r.1, r.2, openings_primed c.args.at.primes u.place os o) (opened_fails u.place os c.in_err-inner.field-0.0 (with_primes c.args.at.primes o) c.args.at.depth_left c.args.at.nodes_left (c.args.at.nodes_left - length ws) (omega arith) f)
+    rw (r.1, r.2, openings_primed c.args.at.primes u.place os o) (opened_fails u.place os c.in_err-inner.field-0.0 (with_primes c.args.at.primes o) c.args.at.depth_left c.args.at.nodes_left f)
 
 pub binding::under_tuple-returns-clause-same : goal.binding::under_tuple-returns-clause-same
 binding::under_tuple-returns-clause-same t c =
@@ -447,7 +446,7 @@ binding::under_tuple-returns-clause-same t c =
     let os = opening c.args.at.bound ws ∷ [] in
     let o = last_or bs (expand (view u.body.now)) (nested u.node u.place bs (expand (view u.body.now))) (with_each ws (c.args.at.bound + 1) (scope_at old c.args.at.scope)) (c.args.at.bound + 1 + length ws) in
     let g = rw (h, ← c.in_ok-scope.ensures.same) at c.in_ok-inner.ensures.same in
-    rw (openings_primed c.args.at.primes u.place os o) (opened_gives u.place os (with_primes c.args.at.primes o) (expr_of c.in_ok-inner.inner.core) (expr_of c.in_ok-core.core) c.args.at.depth_left c.args.at.nodes_left (c.args.at.nodes_left - length ws) c.in_ok-inner.inner.nodes_left (omega arith) g (rw c.in_ok-openings.ensures.ok at (sym c.in_ok-core.ensures.ok)))
+    rw (openings_primed c.args.at.primes u.place os o) (opened_gives u.place os (with_primes c.args.at.primes o) (expr_of c.in_ok-inner.inner.core) (expr_of c.in_ok-core.core) c.args.at.depth_left c.args.at.nodes_left c.in_ok-inner.inner.nodes_left g (rw c.in_ok-openings.ensures.ok at (sym c.in_ok-core.ensures.ok)))
 
 pub binding::set_for-returns-in-Name-clause-same : goal.binding::set_for-returns-in-Name-clause-same
 binding::set_for-returns-in-Name-clause-same t c = rw c.in-Name.is c.in_ok-set.ensures.same
@@ -711,25 +710,6 @@ binding::gather_node-returns-in_err-sets-clause-same t c =
     rw (r.1, r.2) (sets_fail c.args.node c.args.place bs binds (expand (view c.args.body.now)) σ (with_items bs (d + length binds) (with_elements bs d σ)) d c.args.at.primes is refl
     c.in_err-sets.field-0.0 c.args.at.depth_left c.args.at.nodes_left c.in_err-sets.ensures.same)
 
--- more items than nodes that are left
-pub binding::gather_node-returns-in_err-items-clause-same : goal.binding::gather_node-returns-in_err-items-clause-same
-binding::gather_node-returns-in_err-items-clause-same t c =
-    let r = err_from_is_err_and c.from_residual-in_err-items.result c.from_residual-in_err-items.ensures.1 in
-    let σ = scope_at (listed c.args.entries.now) c.args.at.scope in
-    let d = c.args.at.bound in
-    let binds = c.as_slice-binds.result.now in
-    let bs = binds_of (binders (map group_view c.args.groups.now)) σ in
-    let is : binds_in binds σ ≡ bs = rw c.as_slice-binds.ensures.value (c.in_ok-binds.ensures.ok σ) in
-    let os = openings bs d in
-    let body = expand (view c.args.body.now) in
-    let opened : c.in_ok-openings.openings.items ≡ os = rw (← is) (c.in_ok-openings.ensures.ok σ) in
-    let τ = with_items bs (d + length binds) (with_elements bs d σ) in
-    let o = body τ (d + length binds + items_in os) in
-    let full = rw (c.as_slice-opened.ensures.value, opened) at c.in_err-items.ensures.err.1 in
-    let none : Fails c.args.at.depth_left c.in_ok-sets.sets.nodes_left TooLarge (with_primes c.args.at.primes (under_openings c.args.place os o)) = rw (openings_primed c.args.at.primes c.args.place os o) (opened_full c.args.place os (with_primes c.args.at.primes o) c.args.at.depth_left c.in_ok-sets.sets.nodes_left full) in
-    rw (r.1, r.2, c.in_err-items.ensures.err.0) (body_fails c.args.node c.args.place bs binds body σ τ d c.args.at.primes is refl
-    TooLarge c.args.at.depth_left c.args.at.nodes_left c.in_ok-sets.sets.nodes_left (map expr_of c.in_ok-sets.sets.parts.items) c.in_ok-sets.ensures.same none)
-
 pub binding::gather_node-returns-in_err-body-clause-same : goal.binding::gather_node-returns-in_err-body-clause-same
 binding::gather_node-returns-in_err-body-clause-same t c =
     let r = err_from_is_err_and c.from_residual-in_err-body.result c.from_residual-in_err-body.ensures.1 in
@@ -741,12 +721,12 @@ binding::gather_node-returns-in_err-body-clause-same t c =
     let os = openings bs d in
     let body = expand (view c.args.body.now) in
     let opened : c.in_ok-openings.openings.items ≡ os = rw (← is) (c.in_ok-openings.ensures.ok σ) in
-    let count : items_in os ≡ c.in_ok-items.items = rw (← opened, ← c.as_slice-opened.ensures.value) (sym c.in_ok-items.ensures.ok.0) in
-    let τ = scope_at (listed c.name_all.new.entries) c.in_ok-scope.scope in
-    let named : with_items bs (d + length binds) (with_elements bs d σ) ≡ τ = rw (← is) (rw c.in_ok-sets.ensures.kept at (c.in_ok-scope.ensures.same σ)) in
+    let τ = scope_at (listed c.name_all.new.entries) c.in_ok-named.named.scope in
+    let named : with_items bs (d + length binds) (with_elements bs d σ) ≡ τ = rw (← is) (rw c.in_ok-sets.ensures.kept at (c.in_ok-named.ensures.same σ)) in
+    let count : c.in_ok-named.named.bound ≡ d + length binds + items_in os = rw (← is) (c.in_ok-named.ensures.bound σ d) in
     let o = body τ (d + length binds + items_in os) in
-    let f = rw (← count) at c.in_err-body.ensures.same in
-    let inner : Fails c.args.at.depth_left c.in_ok-sets.sets.nodes_left c.in_err-body.field-0.0 (with_primes c.args.at.primes (under_openings c.args.place os o)) = rw (openings_primed c.args.at.primes c.args.place os o) (opened_fails c.args.place os c.in_err-body.field-0.0 (with_primes c.args.at.primes o) c.args.at.depth_left c.in_ok-sets.sets.nodes_left (c.in_ok-sets.sets.nodes_left - items_in os) (omega (arith, count, c.in_ok-items.ensures.ok.1)) f) in
+    let f = rw count at c.in_err-body.ensures.same in
+    let inner : Fails c.args.at.depth_left c.in_ok-sets.sets.nodes_left c.in_err-body.field-0.0 (with_primes c.args.at.primes (under_openings c.args.place os o)) = rw (openings_primed c.args.at.primes c.args.place os o) (opened_fails c.args.place os c.in_err-body.field-0.0 (with_primes c.args.at.primes o) c.args.at.depth_left c.in_ok-sets.sets.nodes_left f) in
     rw (r.1, r.2) (body_fails c.args.node c.args.place bs binds body σ τ d c.args.at.primes is named
     c.in_err-body.field-0.0 c.args.at.depth_left c.args.at.nodes_left c.in_ok-sets.sets.nodes_left (map expr_of c.in_ok-sets.sets.parts.items) c.in_ok-sets.ensures.same inner)
 
@@ -760,14 +740,14 @@ binding::gather_node-returns-clause-same t c =
     let os = openings bs d in
     let body = expand (view c.args.body.now) in
     let opened : c.in_ok-openings.openings.items ≡ os = rw (← is) (c.in_ok-openings.ensures.ok σ) in
-    let count : items_in os ≡ c.in_ok-items.items = rw (← opened, ← c.as_slice-opened.ensures.value) (sym c.in_ok-items.ensures.ok.0) in
-    let τ = scope_at (listed c.name_all.new.entries) c.in_ok-scope.scope in
-    let named : with_items bs (d + length binds) (with_elements bs d σ) ≡ τ = rw (← is) (rw c.in_ok-sets.ensures.kept at (c.in_ok-scope.ensures.same σ)) in
+    let τ = scope_at (listed c.name_all.new.entries) c.in_ok-named.named.scope in
+    let named : with_items bs (d + length binds) (with_elements bs d σ) ≡ τ = rw (← is) (rw c.in_ok-sets.ensures.kept at (c.in_ok-named.ensures.same σ)) in
+    let count : c.in_ok-named.named.bound ≡ d + length binds + items_in os = rw (← is) (c.in_ok-named.ensures.bound σ d) in
     let o = body τ (d + length binds + items_in os) in
-    let g = rw (← count) at c.in_ok-body.ensures.same in
+    let g = rw count at c.in_ok-body.ensures.same in
     let y = expr_of c.in_ok-inner.inner in
     let made = rw opened at (sym c.in_ok-inner.ensures.ok) in
-    let inner : Given (with_primes c.args.at.primes (under_openings c.args.place os o)) y c.in_ok-body.body.nodes_left c.in_ok-sets.sets.nodes_left c.args.at.depth_left = rw (openings_primed c.args.at.primes c.args.place os o) (opened_gives c.args.place os (with_primes c.args.at.primes o) (expr_of c.in_ok-body.body.core) y c.args.at.depth_left c.in_ok-sets.sets.nodes_left (c.in_ok-sets.sets.nodes_left - items_in os) c.in_ok-body.body.nodes_left (omega (arith, count, c.in_ok-items.ensures.ok.1)) g made) in
+    let inner : Given (with_primes c.args.at.primes (under_openings c.args.place os o)) y c.in_ok-body.body.nodes_left c.in_ok-sets.sets.nodes_left c.args.at.depth_left = rw (openings_primed c.args.at.primes c.args.place os o) (opened_gives c.args.place os (with_primes c.args.at.primes o) (expr_of c.in_ok-body.body.core) y c.args.at.depth_left c.in_ok-sets.sets.nodes_left c.in_ok-body.body.nodes_left g made) in
     gather_gives c.args.node c.args.place bs binds body σ τ d c.args.at.primes is named
     c.args.at.depth_left c.args.at.nodes_left c.in_ok-sets.sets.nodes_left c.in_ok-body.body.nodes_left (map expr_of c.in_ok-sets.sets.parts.items) y (expr_of c.in_ok-core.core)
     c.in_ok-sets.ensures.same inner c.in_ok-core.ensures.ok
@@ -834,18 +814,17 @@ pub binding::gather_node-openings_of-requires : goal.binding::gather_node-openin
 binding::gather_node-openings_of-requires t c =
     let s = c.in_ok-sets.ensures.same in
     let n = names_small (set_in c.args.place c.args.at.primes (scope_at (listed c.args.entries.now) c.args.at.scope) c.args.at.bound) c.as_slice-binds.result.now (map expr_of c.in_ok-sets.sets.parts.items) c.in_ok-sets.sets.nodes_left c.args.at.nodes_left s.0 s.1 in
-    omega (arith, n)
+    omega (arith, n, c.requires.small, c.len-mark.ensures.same, c.len-mark.ensures.few, ap length c.in_ok-sets.ensures.kept)
 
--- as many items as are left, for every number of the first element
+-- each set took a node
 pub binding::gather_node-name_all-requires-clause-small : goal.binding::gather_node-name_all-requires-clause-small
 binding::gather_node-name_all-requires-clause-small t c =
     let s = c.in_ok-sets.ensures.same in
     let n = names_small (set_in c.args.place c.args.at.primes (scope_at (listed c.args.entries.now) c.args.at.scope) c.args.at.bound) c.as_slice-binds.result.now (map expr_of c.in_ok-sets.sets.parts.items) c.in_ok-sets.sets.nodes_left c.args.at.nodes_left s.0 s.1 in
-    let count = c.in_ok-items.ensures.ok in
-    λ σ d. omega (arith, n, count.0, count.1, ap items_in (c.as_slice-opened.ensures.value ∙ c.in_ok-openings.ensures.ok σ), items_same (binds_in c.as_slice-binds.result.now σ) d c.args.at.bound)
+    omega (arith, n, c.requires.small, ap length c.in_ok-sets.ensures.kept)
 
 pub binding::gather_node-expand-requires : goal.binding::gather_node-expand-requires
 binding::gather_node-expand-requires t c =
     let s = c.in_ok-sets.ensures.same in
     let n = names_small (set_in c.args.place c.args.at.primes (scope_at (listed c.args.entries.now) c.args.at.scope) c.args.at.bound) c.as_slice-binds.result.now (map expr_of c.in_ok-sets.sets.parts.items) c.in_ok-sets.sets.nodes_left c.args.at.nodes_left s.0 s.1 in
-    (omega arith, (c.in_ok-scope.ensures.linked, (c.in_ok-scope.ensures.within, omega (arith, n, c.in_ok-items.ensures.ok.1))))
+    (omega arith, (c.in_ok-named.ensures.linked, (c.in_ok-named.ensures.within, omega (arith, n, c.requires.small, c.in_ok-named.ensures.grown, ap length c.in_ok-sets.ensures.kept))))

@@ -14,11 +14,11 @@ returns-clause-linked c =
 pub returns-clause-scope : goal.returns-clause-scope
 returns-clause-scope c =
     let p = c.in_ok-push.ensures.ok in
-    let r : c.len.result ≡ length (listed c.args.entries.now) + 1 = c.len.ensures ∙ ap length p ∙ length-append (listed c.args.entries.now) (c.args.entry ∷ []) in
+    let r : c.len.result ≡ length (listed c.args.entries.now) + 1 = c.len.ensures.same ∙ ap length p ∙ length-append (listed c.args.entries.now) (c.args.entry ∷ []) in
     rw (p, r) (scope_new (listed c.args.entries.now) c.args.entry)
 
 pub returns-clause-costs : goal.returns-clause-costs
 returns-clause-costs c =
     let p = c.in_ok-push.ensures.ok in
-    let r : c.len.result ≡ length (listed c.args.entries.now) + 1 = c.len.ensures ∙ ap length p ∙ length-append (listed c.args.entries.now) (c.args.entry ∷ []) in
+    let r : c.len.result ≡ length (listed c.args.entries.now) + 1 = c.len.ensures.same ∙ ap length p ∙ length-append (listed c.args.entries.now) (c.args.entry ∷ []) in
     rw (p, r) (costs_new (listed c.args.entries.now) c.args.entry)

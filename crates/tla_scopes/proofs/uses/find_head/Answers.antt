@@ -27,7 +27,7 @@ loop-head-preserved c =
     let g = c.drop_entries.ensures in
     record {
       linked = g.linked;
-      extends = g.extends (listed c.args.entries.now) (omega (arith, c.len-kept.ensures)) extends;
+      extends = g.extends (listed c.args.entries.now) (omega (arith, c.len-kept.ensures.same)) extends;
       within = g.within;
       same = λ d. c.loop-head.invariant.same d ∙ (rw c.in-Goes.is at (same d)) ∙ ap (λ (σ : Scope). with_primes c.in-Goes.more (expand (view c.in-Goes.next.now) σ d)) (sym g.same);
     }
@@ -36,7 +36,7 @@ pub drop_entries-requires-clause-kept : goal.drop_entries-requires-clause-kept
 drop_entries-requires-clause-kept c =
     let e = c.in_ok-head.ensures in
     let n = extends_length (listed c.args.entries.now) (listed c.next_reduction.new.entries) (extends_trans (listed c.args.entries.now) (listed c.loop-head.entries) (listed c.next_reduction.new.entries) c.loop-head.invariant.extends e.extends) in
-    omega (arith, c.len-kept.ensures, n)
+    omega (arith, c.len-kept.ensures.same, n)
 
 pub drop_entries-requires-clause-scope : goal.drop_entries-requires-clause-scope
 drop_entries-requires-clause-scope c = let e = c.in_ok-head.ensures in rw c.in-Goes.is at e.within

@@ -8,12 +8,6 @@ use Rattle.tla_scopes.proofs.Binds.{extends_trans}
 use Rattle.tla_scopes.specs.Listed.{listed}
 use Rattle.tla_expand.proofs.expand.binding.name_all.Goals as goal
 
-pub name_elements-requires-clause-small : goal.name_elements-requires-clause-small
-name_elements-requires-clause-small c = omega (arith, c.requires.small standard 0)
-
-pub overflow_add-bound : goal.overflow_add-bound
-overflow_add-bound c = omega (arith, c.requires.small standard 0)
-
 pub returns-clause-extends : goal.returns-clause-extends
 returns-clause-extends c =
     on_ok_weaker c.name_items.result (λ h. extends_trans (listed c.args.entries.now) (listed c.name_elements.new.entries) (listed c.name_items.new.entries) c.in_ok-scope.ensures.extends h) c.name_items.ensures.extends
@@ -25,5 +19,5 @@ returns-clause-same c =
     let old = scope_at (listed c.args.entries.now) c.args.scope in
     let mid = scope_at (listed c.name_elements.new.entries) c.in_ok-scope.scope in
     let new = listed c.name_items.new.entries in
-    IfOk-weaker c.name_items.result (λ s. (σ : Scope) → with_items (binds_in c.args.binds.now σ) last mid ≡ scope_at new s) (λ s. (σ : Scope) → with_items (binds_in c.args.binds.now σ) last (with_elements (binds_in c.args.binds.now σ) d old) ≡ scope_at new s)
+    IfOk-weaker c.name_items.result (λ s. (σ : Scope) → with_items (binds_in c.args.binds.now σ) last mid ≡ scope_at new s.scope) (λ s. (σ : Scope) → with_items (binds_in c.args.binds.now σ) last (with_elements (binds_in c.args.binds.now σ) d old) ≡ scope_at new s.scope)
     (λ s h σ. rw (c.in_ok-scope.ensures.same σ) (h σ)) c.name_items.ensures.same

@@ -1,22 +1,11 @@
 use Rattle.std.proofs.Common.{◌∙◌, ap, sym, arith}
 use Rattle.tla_expand.specs.declared.binders.Bind.{Bind}
 use Rattle.tla_expand.specs.Private.Binders.{names_of, item_names}
-use Rattle.tla_scopes.specs.Meanings.{standard}
 use Rattle.tla_scopes.specs.Scopes.{scope_at}
 use Rattle.tla_scopes.proofs.Binds.{extends_trans}
 use Rattle.tla_expand.proofs.Groups.{item_step, left_step}
 use Rattle.tla_scopes.specs.Listed.{listed}
 use Rattle.tla_expand.proofs.expand.binding.name_items.Goals as goal
-
-pub name_each-requires-clause-small : goal.name_each-requires-clause-small
-name_each-requires-clause-small c =
-    let w = c.names_for_items-names.ensures ∙ ap (λ (b : Bind). item_names (names_of b.names)) (sym c.index-binds-i.is) in
-    omega (arith, left_step c.args.binds.now c.loop-i.i c.loop-i.next c.index-binds-i.result c.names_for_items-names.result.now standard 0 (omega arith) c.index-binds-i.is w (c.loop-i.invariant.small standard 0))
-
-pub overflow_add-next : goal.overflow_add-next
-overflow_add-next c =
-    let w = c.names_for_items-names.ensures ∙ ap (λ (b : Bind). item_names (names_of b.names)) (sym c.index-binds-i.is) in
-    omega (arith, left_step c.args.binds.now c.loop-i.i c.loop-i.next c.index-binds-i.result c.names_for_items-names.result.now standard 0 (omega arith) c.index-binds-i.is w (c.loop-i.invariant.small standard 0))
 
 pub loop-i-preserved : goal.loop-i-preserved
 loop-i-preserved c =
@@ -27,6 +16,7 @@ loop-i-preserved c =
       linked = e.linked;
       extends = extends_trans (listed c.args.entries.now) (listed c.loop-i.entries) (listed c.name_each.new.entries) c.loop-i.invariant.extends e.extends;
       within = e.within;
-      small = λ σ d. left_step c.args.binds.now c.loop-i.i c.loop-i.next c.index-binds-i.result ws σ d (omega arith) c.index-binds-i.is w (c.loop-i.invariant.small σ d);
+      grown = omega (arith, c.loop-i.invariant.grown, e.grown);
+      bound = λ σ d. left_step c.args.binds.now c.loop-i.i c.loop-i.next _ c.index-binds-i.result ws σ d (omega arith) c.index-binds-i.is w (c.loop-i.invariant.bound σ d);
       same = λ σ. c.loop-i.invariant.same σ ∙ item_step c.args.binds.now c.loop-i.i c.loop-i.next c.index-binds-i.result ws σ (scope_at (listed c.loop-i.entries) c.loop-i.at) (scope_at (listed c.name_each.new.entries) c.in_ok-at.at) (omega arith) c.index-binds-i.is w e.same;
     }
