@@ -71,18 +71,21 @@ sequence_made p (Err f) v e = cc
 -- ---- the whole
 module _ (p : Place) (cs es : List Core) (b : Bound) (s : Present) (t : Next) (v : Tree) where
   if_true : (r : Option (List Tree)) → all_hold (λ core. is_true core b s t) cs ≡ Ok true → (vs : List Tree) → each (λ core. val (expr_of core) b s t) es ≡ Ok vs → fun (pairs (numbered 1 vs)) ≡ v → IsAnswer v r → AreFound cs es b s t r
-  if_true None holds vs are made a = absurd (no_set (made ∙ a.1))
+  if_true None holds vs are made a = absurd (no_truth (made ∙ a.1))
     where
-      no_set : {ps : Pairs} {ts : Trees} → fun ps ≡ set ts → ⊥
-      no_set e = cc
+      no_truth : {ps : Pairs} {h : Bool} → fun ps ≡ truth h → ⊥
+      no_truth e = cc
   if_true (Some us) holds vs are made a = (holds, are ∙ ap (λ (ws : List Tree). let o : Outcome (List Tree) = Ok ws in o) (items_are vs us a.0 v made a.1 a.2))
 
-  if_false : (r : Option (List Tree)) → all_hold (λ core. is_true core b s t) cs ≡ Ok false → set (trees []) ≡ v → IsAnswer v r → AreFound cs es b s t r
+  if_false : (r : Option (List Tree)) → all_hold (λ core. is_true core b s t) cs ≡ Ok false → truth false ≡ v → IsAnswer v r → AreFound cs es b s t r
   if_false None holds made a = holds
   if_false (Some us) holds made a = absurd (no_fun (made ∙ a.1))
     where
-      no_fun : {ps : Pairs} {ts : Trees} → set ts ≡ fun ps → ⊥
+      no_fun : {ps : Pairs} → truth false ≡ fun ps → ⊥
       no_fun e = cc
+
+  same_tree : {x : Tree} → (let o : Outcome Tree = Ok x in o) ≡ Ok v → x ≡ v
+  same_tree e = cc
 
   abbrev asked : Outcome Bool
   asked = all_hold (λ m. asks p m b s t) (mean_all (exprs_of_cores cs))
@@ -90,11 +93,11 @@ module _ (p : Place) (cs es : List Core) (b : Bound) (s : Present) (t : Next) (v
   abbrev wanted : Outcome Tree
   wanted = each (λ (m : Meaning). m.value b s t) (mean_all (exprs_of_cores es)) >>= make_sequence p
 
-  decided : (r : Option (List Tree)) → IsAnswer v r → (o : Outcome Bool) → asked ≡ o → ((as_tree o >>= as_truth p) >>= λ holds. cond holds wanted (make_set p [])) ≡ Ok v → AreFound cs es b s t r
+  decided : (r : Option (List Tree)) → IsAnswer v r → (o : Outcome Bool) → asked ≡ o → ((as_tree o >>= as_truth p) >>= λ holds. cond holds wanted (Ok (truth false))) ≡ Ok v → AreFound cs es b s t r
   decided r a (Ok true) is e =
       let found = sequence_made p (each (λ (m : Meaning). m.value b s t) (mean_all (exprs_of_cores es))) v e in
       if_true r (conditions_are p b s t cs true is) found.0 (sym (values_are p b s t es) ∙ found.1) found.2 a
-  decided r a (Ok false) is e = if_false r (conditions_are p b s t cs false is) (within-ok p 0 (deepest (trees [])) (set (trees [])) v e) a
+  decided r a (Ok false) is e = if_false r (conditions_are p b s t cs false is) (same_tree e) a
   decided r a (Err f) is e = cc
 
   pub group_found : (r : Option (List Tree)) → val (group_expr p cs es) b s t ≡ Ok v → IsAnswer v r → AreFound cs es b s t r

@@ -3,5 +3,6 @@ mod Tried
 mod Used
 mod Forms
 mod Grouped
+pub mod Numbers
 mod FieldNames
 pub mod KeptParts

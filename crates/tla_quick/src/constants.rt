@@ -144,7 +144,7 @@ fn value_alone<'m>(alloc: Global, code: &Code<'m>) -> Option<Value>
         names: 0,
         definitions: 0,
     };
-    match value(alloc, code, environment) {
+    match value(alloc, &*code, &environment) {
         Ok(value) => owned(alloc, value).ok(),
         Err(_) => None,
     }

@@ -17,6 +17,7 @@ mod fields;
 mod held;
 mod lists;
 mod logic;
+mod numbers;
 mod operands;
 mod updates;
 
@@ -46,11 +47,11 @@ use tla_value::Value;
 pub(crate) fn value<'m: 'a, 'a>(
     alloc: Global,
     code: &'a Code<'m>,
-    env: Environment<'m, 'a>,
+    env: &Environment<'m, 'a>,
 ) -> Result<Evaluated<'a>, Stop>
-    ensures { Answers tree_of_evaluated result (value_in env.entry (code_in env.entry code.now)) }
+    ensures { Answers tree_of_evaluated result (value_in env.entry.now (code_in env.entry.now code.now)) }
 {
-    match held(alloc, code, &env) {
+    match held(alloc, code, env) {
         Some(value) => Ok(Evaluated::Borrowed(value)),
         None => value_of_form(alloc, code, env),
     }
@@ -62,14 +63,14 @@ pub(crate) fn value<'m: 'a, 'a>(
 pub(crate) fn value_of_form<'m: 'a, 'a>(
     alloc: Global,
     code: &'a Code<'m>,
-    env: Environment<'m, 'a>,
+    env: &Environment<'m, 'a>,
 ) -> Result<Evaluated<'a>, Stop>
-    ensures { Answers tree_of_evaluated result (value_in env.entry (code_in env.entry code.now)) }
+    ensures { Answers tree_of_evaluated result (value_in env.entry.now (code_in env.entry.now code.now)) }
 {
     match code {
-        Code::Bound(_, index) => Ok(Evaluated::Borrowed(bound_value(*index, &env)?)),
+        Code::Bound(_, index) => Ok(Evaluated::Borrowed(bound_value(*index, env)?)),
         Code::Plain(core) => plain_value(alloc, core, env),
-        Code::Use(_, number, by) => Ok(Evaluated::Borrowed(used_value(*number, *by, &env)?)),
+        Code::Use(_, number, by) => Ok(Evaluated::Borrowed(used_value(*number, *by, env)?)),
         Code::One(place, form, a) => value_of_one(alloc, place, *form, a, env),
         Code::Two(place, form, a, b) => value_of_two(alloc, place, *form, a, b, env),
         Code::Three(place, form, a, b, c) => value_of_three(alloc, place, *form, a, b, c, env),
@@ -84,9 +85,9 @@ pub(crate) fn value_of_form<'m: 'a, 'a>(
 fn value_of_other<'m: 'a, 'a>(
     alloc: Global,
     code: &'a Code<'m>,
-    env: Environment<'m, 'a>,
+    env: &Environment<'m, 'a>,
 ) -> Result<Evaluated<'a>, Stop>
-    ensures { Answers tree_of_evaluated result (value_in env.entry (code_in env.entry code.now)) }
+    ensures { Answers tree_of_evaluated result (value_in env.entry.now (code_in env.entry.now code.now)) }
 {
     match code {
         Code::Let(names, is_used, definition, body) => {
@@ -110,12 +111,12 @@ fn value_of_other<'m: 'a, 'a>(
 pub(crate) fn truth<'m: 'a, 'a>(
     alloc: Global,
     code: &'a Code<'m>,
-    env: Environment<'m, 'a>,
+    env: &Environment<'m, 'a>,
 ) -> Result<bool, Stop>
-    ensures { Answers truth result (value_in env.entry (code_in env.entry code.now)) }
+    ensures { Answers truth result (value_in env.entry.now (code_in env.entry.now code.now)) }
 {
     if !is_logical(code) {
-        return match held(alloc, code, &env) {
+        return match held(alloc, code, env) {
             Some(value) => known_truth(value),
             None => known_truth(value_of_form(alloc, code, env)?.value()),
         };
@@ -141,10 +142,10 @@ pub(crate) fn has<'m: 'a, 'a>(
     alloc: Global,
     code: &'a Code<'m>,
     member: &'a Value,
-    env: Environment<'m, 'a>,
+    env: &Environment<'m, 'a>,
 ) -> Result<bool, Stop>
     ensures { Answers (λ b. b) result
-        (has_in env.entry (tree_of member.now) (code_in env.entry code.now)) }
+        (has_in env.entry.now (tree_of member.now) (code_in env.entry.now code.now)) }
 {
     if !has_membership_test(code) {
         return has_known(value(alloc, code, env)?.value(), member);
@@ -170,11 +171,11 @@ pub(crate) fn elements<'m: 'a, 'a>(
     alloc: Global,
     place: &'a Place,
     code: &'a Code<'m>,
-    env: Environment<'m, 'a>,
+    env: &Environment<'m, 'a>,
 ) -> Result<Elements<'a>, Stop>
     ensures { Answers elements_of result
-        (elements place.now (means (code_in env.entry code.now)) (bound_in env.entry)
-        (present_in env.entry) (next_in env.entry)) }
+        (elements place.now (means (code_in env.entry.now code.now)) (bound_in env.entry.now)
+        (present_in env.entry.now) (next_in env.entry.now)) }
 {
     match code {
         Code::Two(at, form, left, right) => elements_of_two(
@@ -193,13 +194,13 @@ fn elements_of_two<'m: 'a, 'a>(
     form: TwoForm,
     left: &'a Code<'m>,
     right: &'a Code<'m>,
-    env: Environment<'m, 'a>,
+    env: &Environment<'m, 'a>,
 ) -> Result<Elements<'a>, Stop>
     ensures { Answers elements_of result
         (elements place.now
         (means
-        (two_expr form at.now (code_in env.entry left.now) (code_in env.entry right.now)))
-        (bound_in env.entry) (present_in env.entry) (next_in env.entry)) }
+        (two_expr form at.now (code_in env.entry.now left.now) (code_in env.entry.now right.now)))
+        (bound_in env.entry.now) (present_in env.entry.now) (next_in env.entry.now)) }
 {
     match form {
         TwoForm::Operator(operator) => {

@@ -1,5 +1,10 @@
 //! Expressions with their codes.
+ghost use Rattle.std.specs.Prelude.{◌≡◌, Ok, IfSome, option_map};
+ghost use Rattle.tla_value.specs.TreeOf.{tree_of};
 ghost use Rattle.tla_core.specs.ExprOf.{expr_of};
+ghost use Rattle.tla_core.specs.Meaning.{Bound, Next};
+ghost use Rattle.tla_core.specs.Value.{val};
+ghost use Rattle.tla_code.specs.CodeExpr.{Scope, expr_in};
 ghost use Rattle.tla_quick.specs.Private.Kept.{prepared_expr};
 ghost use Rattle.tla_quick.specs.SameMeaning.{HasSameValue, HasSameMembers, HasSameValue-prop, HasSameMembers-prop};
 
@@ -7,6 +12,7 @@ use crate::constants::prepare_core;
 use crate::environment::Environment;
 use crate::evaluation::{elements, has, truth, value};
 use crate::frame::Frame;
+use crate::leaves::now_value;
 use crate::made::{all_values, owned};
 use crate::prepared::Prepared;
 use crate::stop::Stop;
@@ -86,6 +92,9 @@ impl<'m> Expression<'m> {
             partial.now
             ≡ Ok (tree_of v)) }
     {
+        if let Some(value) = present_value(&self.prepared.code, now) {
+            return value.copy(alloc).ok();
+        }
         let outer = Frame::Outer(&self.prepared.constants);
         let frame = Frame::Many(&outer, 0, bound);
         let environment = Environment {
@@ -95,7 +104,7 @@ impl<'m> Expression<'m> {
             names: bound.len(),
             definitions: self.prepared.constants.len(),
         };
-        match value(alloc, &self.prepared.code, environment) {
+        match value(alloc, &self.prepared.code, &environment) {
             Ok(value) => owned(alloc, value).ok(),
             Err(_) => None,
         }
@@ -124,7 +133,7 @@ impl<'m> Expression<'m> {
             names: bound.len(),
             definitions: self.prepared.constants.len(),
         };
-        truth(alloc, &self.prepared.code, environment).ok()
+        truth(alloc, &self.prepared.code, &environment).ok()
     }
 
     /// Whether a value is a member of the expression, or none if the evaluation gave up.
@@ -150,7 +159,7 @@ impl<'m> Expression<'m> {
             names: bound.len(),
             definitions: self.prepared.constants.len(),
         };
-        has(alloc, &self.prepared.code, member, environment).ok()
+        has(alloc, &self.prepared.code, member, &environment).ok()
     }
 
     /// The members of the set that the expression denotes, in rising order, or none if the evaluation gave up. A range
@@ -177,9 +186,22 @@ impl<'m> Expression<'m> {
             names: bound.len(),
             definitions: self.prepared.constants.len(),
         };
-        match elements(alloc, place, &self.prepared.code, environment) {
+        match elements(alloc, place, &self.prepared.code, &environment) {
             Ok(found) => all_values(alloc, found).ok(),
             Err(_) => None,
         }
+    }
+}
+
+/// The value of a variable in the present state, if the code is one.
+fn present_value<'x>(code: &'x Code<'_>, now: Option<&'x State>) -> Option<&'x Value>
+    ensures { (scope : Scope) (b : Bound) (t : Next)
+        → IfSome result (λ v.
+        val (expr_in scope code.now) b (option_map (λ s. s.now) now.entry) t
+        ≡ Ok (tree_of v.now)) }
+{
+    match code {
+        Code::Plain(Core::Now(_, variable)) => now_value(now, *variable).ok(),
+        _ => None,
     }
 }

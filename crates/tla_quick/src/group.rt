@@ -108,14 +108,14 @@ impl<'m> Group<'m> {
             names: bound.len(),
             definitions: self.prepared.constants.len(),
         };
-        match value(alloc, &self.prepared.code, environment) {
+        match value(alloc, &self.prepared.code, &environment) {
             Ok(found) => answer_of(alloc, found.value()),
             Err(_) => None,
         }
     }
 }
 
-/// The code of a group: IF all conditions THEN the tuple of the values ELSE {}.
+/// The code of a group: IF all conditions THEN the tuple of the values ELSE FALSE, as a disjunction of nothing.
 fn group_code<'m>(
     alloc: Global,
     place: Place,
@@ -127,7 +127,7 @@ fn group_code<'m>(
 {
     let conditions = list_code(alloc, place, ListForm::Conjunction, conditions)?;
     let values = list_code(alloc, place, ListForm::Tuple, values)?;
-    let nothing = list_code(alloc, place, ListForm::Enumerated, &[])?;
+    let nothing = list_code(alloc, place, ListForm::Disjunction, &[])?;
     Ok(Code::Three(place, ThreeForm::If, conditions, values, nothing))
 }
 
@@ -157,13 +157,13 @@ fn codes_of<'m>(alloc: Global, cores: &[&'m Core]) -> Result<Vec<Code<'m>>, Allo
     Ok(codes)
 }
 
-/// Decodes the value of a group's code: a set means that a condition is FALSE; a sequence contains the values.
+/// Decodes the value of a group's code: FALSE means that a condition is FALSE; a sequence contains the values.
 fn answer_of(alloc: Global, value: &Value) -> Option<Option<Vec<Value>>>
     ensures { IfSome result (λ r.
         IsAnswer (tree_of value.now) (option_map (λ v. map tree_of v.items) r)) }
 {
     match value {
-        Value::Set(_) => Some(None),
+        Value::Truth(_) => Some(None),
         Value::Fun(function) => Some(Some(copies(alloc, function.values())?)),
         _ => None,
     }

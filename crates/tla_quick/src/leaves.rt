@@ -16,7 +16,7 @@ use crate::environment::Environment;
 use crate::frame::{Found, Frame, bound_name, definition};
 use crate::made::{count_more, has_known};
 use crate::patterns::fitting;
-use crate::stop::Stop;
+use crate::stop::{Stop, needed};
 use std::alloc::Global;
 use tla_core::{Core, Opening};
 use tla_eval::{Partial, eval, member};
@@ -41,7 +41,7 @@ pub(crate) fn bound_value<'m: 'a, 'a>(
     }
 }
 
-fn now_value<'a>(now: Option<&'a State>, variable: usize) -> Result<&'a Value, Stop>
+pub(crate) fn now_value<'a>(now: Option<&'a State>, variable: usize) -> Result<&'a Value, Stop>
     ensures { IfOk result (λ v.
         variable_of (option_map (λ s. s.now) now.entry) variable ≡ tree_of v.now) }
 {
@@ -99,7 +99,7 @@ fn known_value<'a>(
     }
     match found.value {
         Some(value) => Ok(value),
-        None => Err(Stop::Needed(number)),
+        None => Err(needed(number)),
     }
 }
 
@@ -127,9 +127,9 @@ fn bound_values<'m: 'a, 'a>(alloc: Global, frame: &'a Frame<'m, 'a>) -> Result<V
 fn eval_value<'m: 'a, 'a>(
     alloc: Global,
     core: &'a Core,
-    env: Environment<'m, 'a>,
+    env: &Environment<'m, 'a>,
 ) -> Result<Value, Stop>
-    ensures { Answers tree_of result (value_in env.entry (expr_of core.now)) }
+    ensures { Answers tree_of result (value_in env.entry.now (expr_of core.now)) }
 {
     let mut bound = bound_values(alloc, env.frame)?;
     match eval(alloc, core, &mut bound, env.now, env.next) {
@@ -143,9 +143,9 @@ fn eval_has<'m: 'a, 'a>(
     alloc: Global,
     core: &'a Core,
     value: &'a Value,
-    env: Environment<'m, 'a>,
+    env: &Environment<'m, 'a>,
 ) -> Result<bool, Stop>
-    ensures { Answers (λ b. b) result (has_in env.entry (tree_of value.now) (expr_of core.now)) }
+    ensures { Answers (λ b. b) result (has_in env.entry.now (tree_of value.now) (expr_of core.now)) }
 {
     let mut bound = bound_values(alloc, env.frame)?;
     match member(alloc, value, core, &mut bound, env.now, env.next) {
@@ -158,9 +158,9 @@ fn eval_has<'m: 'a, 'a>(
 pub(crate) fn plain_value<'m: 'a, 'a>(
     alloc: Global,
     core: &'a Core,
-    env: Environment<'m, 'a>,
+    env: &Environment<'m, 'a>,
 ) -> Result<Evaluated<'a>, Stop>
-    ensures { Answers tree_of_evaluated result (value_in env.entry (expr_of core.now)) }
+    ensures { Answers tree_of_evaluated result (value_in env.entry.now (expr_of core.now)) }
 {
     match core {
         Core::Constant(_, value) => Ok(Evaluated::Borrowed(value)),
@@ -190,9 +190,9 @@ pub(crate) fn plain_has<'m: 'a, 'a>(
     alloc: Global,
     core: &'a Core,
     value: &'a Value,
-    env: Environment<'m, 'a>,
+    env: &Environment<'m, 'a>,
 ) -> Result<bool, Stop>
-    ensures { Answers (λ b. b) result (has_in env.entry (tree_of value.now) (expr_of core.now)) }
+    ensures { Answers (λ b. b) result (has_in env.entry.now (tree_of value.now) (expr_of core.now)) }
 {
     match core {
         Core::KindSet(_, kind) => Ok(kind_has(*kind, value)),
@@ -206,15 +206,15 @@ pub(crate) fn plain_has<'m: 'a, 'a>(
 pub(crate) fn open_items<'m: 'a, 'a>(
     alloc: Global,
     openings: &'a [Opening],
-    env: Environment<'m, 'a>,
+    env: &Environment<'m, 'a>,
 ) -> Result<Vec<Value>, Stop>
     ensures { (p : Place)
         → Answers (λ v. map tree_of v.items) result
-        (opened_items p openings.now (bound_in env.entry)) }
+        (opened_items p openings.now (bound_in env.entry.now)) }
 {
     let mut items = Vec::new(alloc);
     for opening in openings {
-        let element = bound_value(opening.name, &env)?;
+        let element = bound_value(opening.name, env)?;
         add_items(alloc, &mut items, fitting(opening.items, element)?)?;
     }
     Ok(items)

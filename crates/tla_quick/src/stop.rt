@@ -3,11 +3,12 @@
 use std::alloc::{AllocError, AllocFailed};
 use tla_operators::fault_ref::FaultRef;
 
-/// Why there is no result. `Needed(n)`: definition n must be evaluated first.
+/// Why there is no result. `Needed(n)`: definition n must be evaluated first. (With 32 bits for n, results fit in
+/// registers.)
 #[derive(Clone, Copy)]
 pub(crate) enum Stop {
     GaveUp,
-    Needed(usize),
+    Needed(u32),
 }
 
 impl From<AllocError> for Stop {
@@ -34,11 +35,19 @@ impl<'p> From<FaultRef<'p>> for Stop {
     }
 }
 
+/// The stop of a definition with this number.
+pub(crate) fn needed(number: usize) -> Stop {
+    match u32::try_from(number) {
+        Ok(number) => Stop::Needed(number),
+        Err(_) => Stop::GaveUp,
+    }
+}
+
 /// Ok if the evaluation stopped because it needs `definition`; any other stop is returned.
 pub(crate) fn needs(stop: Stop, definition: usize) -> Result<(), Stop> {
     match stop {
         Stop::Needed(number) => {
-            if number == definition {
+            if number as usize == definition {
                 Ok(())
             } else {
                 Err(stop)

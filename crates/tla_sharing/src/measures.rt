@@ -5,7 +5,7 @@ use tla_core::{Binary, Opening, Unary};
 use tla_value::Text;
 
 /// From this size on an expression is worth a definition.
-const MIN_SHARED_SIZE: usize = 8;
+const MIN_SHARED_SIZE: usize = 12;
 
 /// How many names some patterns bind.
 pub(crate) fn items_of(openings: &[Opening]) -> Option<usize> {

@@ -32,12 +32,12 @@ pub(super) fn has_of_one<'m: 'a, 'a>(
     form: OneForm<'m>,
     operand: &'a Code<'m>,
     member: &'a Value,
-    env: Environment<'m, 'a>,
+    env: &Environment<'m, 'a>,
 ) -> Result<bool, Stop>
     ensures { (p : AnyPlace)
         → Answers (λ b. b) result
-        (has_in env.entry (tree_of member.now)
-        (one_expr form.entry p (code_in env.entry operand.now))) }
+        (has_in env.entry.now (tree_of member.now)
+        (one_expr form.entry p (code_in env.entry.now operand.now))) }
 {
     match form {
         OneForm::Power => match if_set(member) {
@@ -61,11 +61,11 @@ pub(super) fn has_of_two<'m: 'a, 'a>(
     left: &'a Code<'m>,
     right: &'a Code<'m>,
     member: &'a Value,
-    env: Environment<'m, 'a>,
+    env: &Environment<'m, 'a>,
 ) -> Result<bool, Stop>
     ensures { Answers (λ b. b) result
-        (has_in env.entry (tree_of member.now)
-        (two_expr form place.now (code_in env.entry left.now) (code_in env.entry right.now))) }
+        (has_in env.entry.now (tree_of member.now)
+        (two_expr form place.now (code_in env.entry.now left.now) (code_in env.entry.now right.now))) }
 {
     match form {
         TwoForm::Operator(operator) => {
@@ -108,13 +108,13 @@ pub(super) fn has_of_three<'m: 'a, 'a>(
     second: &'a Code<'m>,
     third: &'a Code<'m>,
     member: &'a Value,
-    env: Environment<'m, 'a>,
+    env: &Environment<'m, 'a>,
 ) -> Result<bool, Stop>
     ensures { (p : AnyPlace)
         → Answers (λ b. b) result
-        (has_in env.entry (tree_of member.now)
-        (three_expr form p (code_in env.entry first.now) (code_in env.entry second.now)
-        (code_in env.entry third.now))) }
+        (has_in env.entry.now (tree_of member.now)
+        (three_expr form p (code_in env.entry.now first.now) (code_in env.entry.now second.now)
+        (code_in env.entry.now third.now))) }
 {
     match form {
         ThreeForm::If => {
@@ -136,11 +136,11 @@ pub(super) fn has_in_list<'m: 'a, 'a>(
     form: ListForm,
     parts: &'a [Code<'m>],
     member: &'a Value,
-    env: Environment<'m, 'a>,
+    env: &Environment<'m, 'a>,
 ) -> Result<bool, Stop>
     ensures { Answers (λ b. b) result
-        (has_in env.entry (tree_of member.now)
-        (list_expr form place.now (exprs_of_codes (scope_in env.entry) parts.now))) }
+        (has_in env.entry.now (tree_of member.now)
+        (list_expr form place.now (exprs_of_codes (scope_in env.entry.now) parts.now))) }
 {
     match form {
         ListForm::Enumerated => {
@@ -164,12 +164,12 @@ pub(super) fn has_in_binder<'m: 'a, 'a>(
     set: &'a Code<'m>,
     body: &'a Code<'m>,
     member: &'a Value,
-    env: Environment<'m, 'a>,
+    env: &Environment<'m, 'a>,
 ) -> Result<bool, Stop>
     ensures { (p : AnyPlace)
         → Answers (λ b. b) result
-        (has_in env.entry (tree_of member.now)
-        (binder_expr form p (code_in env.entry set.now) (code_in env.entry body.now))) }
+        (has_in env.entry.now (tree_of member.now)
+        (binder_expr form p (code_in env.entry.now set.now) (code_in env.entry.now body.now))) }
 {
     match form {
         BinderForm::Filter => {
@@ -190,12 +190,12 @@ fn is_function_into<'m: 'a, 'a>(
     domain: &'a Code<'m>,
     range: &'a Code<'m>,
     member: &'a Value,
-    env: Environment<'m, 'a>,
+    env: &Environment<'m, 'a>,
 ) -> Result<bool, Stop>
     ensures { (p : AnyPlace)
         → Answers (λ b. b) result
-        (has_in env.entry (tree_of member.now)
-        (functions p (code_in env.entry domain.now) (code_in env.entry range.now))) }
+        (has_in env.entry.now (tree_of member.now)
+        (functions p (code_in env.entry.now domain.now) (code_in env.entry.now range.now))) }
 {
     match if_function(member) {
         Some(function) => {
@@ -217,12 +217,12 @@ fn is_tuple_of<'m: 'a, 'a>(
     alloc: Global,
     parts: &'a [Code<'m>],
     member: &'a Value,
-    env: Environment<'m, 'a>,
+    env: &Environment<'m, 'a>,
 ) -> Result<bool, Stop>
     ensures { (p : AnyPlace)
         → Answers (λ b. b) result
-        (has_in env.entry (tree_of member.now)
-        (product p (exprs_of_codes (scope_in env.entry) parts.now))) }
+        (has_in env.entry.now (tree_of member.now)
+        (product p (exprs_of_codes (scope_in env.entry.now) parts.now))) }
 {
     match sequence_items(member) {
         Some(items) => {
@@ -242,13 +242,13 @@ fn parts_have<'m: 'a, 'a>(
     alloc: Global,
     parts: &'a [Code<'m>],
     items: &'a [Value],
-    env: Environment<'m, 'a>,
+    env: &Environment<'m, 'a>,
 ) -> Result<bool, Stop>
     requires { length items.now ≡ length parts.now }
     ensures { Answers (λ b. b) result
-        (parts_have (mean_all (exprs_of_codes (scope_in env.entry) parts.now))
-        (map tree_of items.now) (bound_in env.entry) (present_in env.entry)
-        (next_in env.entry)) }
+        (parts_have (mean_all (exprs_of_codes (scope_in env.entry.now) parts.now))
+        (map tree_of items.now) (bound_in env.entry.now) (present_in env.entry.now)
+        (next_in env.entry.now)) }
 {
     for i in 0..parts.len() {
         if !has(alloc, &parts[i], &items[i], env)? {

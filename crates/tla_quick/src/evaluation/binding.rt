@@ -32,12 +32,12 @@ pub(super) fn truth_of_binder<'m: 'a, 'a>(
     form: BinderForm,
     set: &'a Code<'m>,
     body: &'a Code<'m>,
-    env: Environment<'m, 'a>,
+    env: &Environment<'m, 'a>,
 ) -> Result<bool, Stop>
     ensures { Answers truth result
-        (value_in env.entry
-        (binder_expr form place.now (code_in env.entry set.now)
-        (code_in env.entry body.now))) }
+        (value_in env.entry.now
+        (binder_expr form place.now (code_in env.entry.now set.now)
+        (code_in env.entry.now body.now))) }
 {
     let found = elements(alloc, place, set, env)?;
     match form {
@@ -55,12 +55,12 @@ pub(super) fn value_of_binder<'m: 'a, 'a>(
     form: BinderForm,
     set: &'a Code<'m>,
     body: &'a Code<'m>,
-    env: Environment<'m, 'a>,
+    env: &Environment<'m, 'a>,
 ) -> Result<Evaluated<'a>, Stop>
     ensures { Answers tree_of_evaluated result
-        (value_in env.entry
-        (binder_expr form place.now (code_in env.entry set.now)
-        (code_in env.entry body.now))) }
+        (value_in env.entry.now
+        (binder_expr form place.now (code_in env.entry.now set.now)
+        (code_in env.entry.now body.now))) }
 {
     match form {
         BinderForm::ForAll | BinderForm::ForSome => Ok(Evaluated::truth(truth_of_binder(
@@ -83,10 +83,10 @@ pub(super) fn truth_with<'m: 'a, 'a>(
     alloc: Global,
     body: &'a Code<'m>,
     value: &'a Value,
-    env: Environment<'m, 'a>,
+    env: &Environment<'m, 'a>,
 ) -> Result<bool, Stop>
     ensures { Answers truth result
-        (value_with env.entry (tree_of value.now ∷ []) (code_in env.entry body.now)) }
+        (value_with env.entry.now (tree_of value.now ∷ []) (code_in env.entry.now body.now)) }
 {
     let frame = Frame::One(env.frame, env.names, value);
     let inner = Environment {
@@ -96,7 +96,7 @@ pub(super) fn truth_with<'m: 'a, 'a>(
         names: count_more(env.names, 1)?,
         definitions: env.definitions,
     };
-    truth(alloc, body, inner)
+    truth(alloc, body, &inner)
 }
 
 /// The value of a body with one more bound value.
@@ -105,10 +105,10 @@ pub(super) fn value_with<'m: 'a, 'a>(
     alloc: Global,
     body: &'a Code<'m>,
     bound: &'a Value,
-    env: Environment<'m, 'a>,
+    env: &Environment<'m, 'a>,
 ) -> Result<Value, Stop>
     ensures { Answers tree_of result
-        (value_with env.entry (tree_of bound.now ∷ []) (code_in env.entry body.now)) }
+        (value_with env.entry.now (tree_of bound.now ∷ []) (code_in env.entry.now body.now)) }
 {
     let frame = Frame::One(env.frame, env.names, bound);
     let inner = Environment {
@@ -118,7 +118,7 @@ pub(super) fn value_with<'m: 'a, 'a>(
         names: count_more(env.names, 1)?,
         definitions: env.definitions,
     };
-    owned(alloc, value(alloc, body, inner)?)
+    owned(alloc, value(alloc, body, &inner)?)
 }
 
 /// Whether the body is TRUE for element `number`.
@@ -129,17 +129,17 @@ fn holds_at<'e, 'm: 'a, 'a>(
     body: &'a Code<'m>,
     elements: &'e Elements<'e>,
     number: usize,
-    env: Environment<'m, 'a>,
+    env: &Environment<'m, 'a>,
 ) -> Result<bool, Stop>
     requires { number < length (elements_of elements.now) }
     ensures { Answers (λ (b : Bool). Some b) result
         (tested (λ v.
-        asks place.now (means (code_in env.entry body.now)) (bound_in env.entry ++ v ∷ [])
-        (present_in env.entry) (next_in env.entry))
+        asks place.now (means (code_in env.entry.now body.now)) (bound_in env.entry.now ++ v ∷ [])
+        (present_in env.entry.now) (next_in env.entry.now))
         (slice_get (elements_of elements.now) number)) }
 {
     let element = element_at(elements, number);
-    truth_with(alloc, &*body, element.value(), env)
+    truth_with(alloc, &*body, element.value(), &*env)
 }
 
 /// Whether a body is TRUE for each of these elements. Stops at the first for which it is FALSE.
@@ -149,12 +149,12 @@ fn each_holds<'e, 'm: 'a, 'a>(
     place: &'a Place,
     body: &'a Code<'m>,
     elements: &'e Elements<'e>,
-    env: Environment<'m, 'a>,
+    env: &Environment<'m, 'a>,
 ) -> Result<bool, Stop>
     ensures { Answers (λ b. b) result
         (all_hold (λ v.
-        asks place.now (means (code_in env.entry body.now)) (bound_in env.entry ++ v ∷ [])
-        (present_in env.entry) (next_in env.entry)) (elements_of elements.now)) }
+        asks place.now (means (code_in env.entry.now body.now)) (bound_in env.entry.now ++ v ∷ [])
+        (present_in env.entry.now) (next_in env.entry.now)) (elements_of elements.now)) }
 {
     for number in 0..count_of(elements) {
         let holds = holds_at(alloc, place, body, elements, number, env)?;
@@ -172,12 +172,12 @@ fn some_holds<'e, 'm: 'a, 'a>(
     place: &'a Place,
     body: &'a Code<'m>,
     elements: &'e Elements<'e>,
-    env: Environment<'m, 'a>,
+    env: &Environment<'m, 'a>,
 ) -> Result<bool, Stop>
     ensures { Answers (λ b. b) result
         (some_hold (λ v.
-        asks place.now (means (code_in env.entry body.now)) (bound_in env.entry ++ v ∷ [])
-        (present_in env.entry) (next_in env.entry)) (elements_of elements.now)) }
+        asks place.now (means (code_in env.entry.now body.now)) (bound_in env.entry.now ++ v ∷ [])
+        (present_in env.entry.now) (next_in env.entry.now)) (elements_of elements.now)) }
 {
     for number in 0..count_of(elements) {
         let holds = holds_at(alloc, place, body, elements, number, env)?;
@@ -195,12 +195,12 @@ fn first_passing<'e, 'm: 'a, 'a>(
     place: &'a Place,
     body: &'a Code<'m>,
     elements: &'e Elements<'e>,
-    env: Environment<'m, 'a>,
+    env: &Environment<'m, 'a>,
 ) -> Result<Value, Stop>
     ensures { Answers tree_of result
         (first_passing place.now (λ v.
-        asks place.now (means (code_in env.entry body.now)) (bound_in env.entry ++ v ∷ [])
-        (present_in env.entry) (next_in env.entry)) (elements_of elements.now)) }
+        asks place.now (means (code_in env.entry.now body.now)) (bound_in env.entry.now ++ v ∷ [])
+        (present_in env.entry.now) (next_in env.entry.now)) (elements_of elements.now)) }
 {
     for number in 0..count_of(elements) {
         let holds = holds_at(alloc, place, body, elements, number, env)?;
@@ -218,12 +218,12 @@ fn passing<'e, 'm: 'a, 'a>(
     place: &'a Place,
     body: &'a Code<'m>,
     elements: &'e Elements<'e>,
-    env: Environment<'m, 'a>,
+    env: &Environment<'m, 'a>,
 ) -> Result<Vec<Value>, Stop>
     ensures { Answers (λ v. map tree_of v.items) result
         (passing (λ v.
-        asks place.now (means (code_in env.entry body.now)) (bound_in env.entry ++ v ∷ [])
-        (present_in env.entry) (next_in env.entry)) (elements_of elements.now)) }
+        asks place.now (means (code_in env.entry.now body.now)) (bound_in env.entry.now ++ v ∷ [])
+        (present_in env.entry.now) (next_in env.entry.now)) (elements_of elements.now)) }
 {
     let mut kept = Vec::new(alloc);
     for number in 0..count_of(elements) {

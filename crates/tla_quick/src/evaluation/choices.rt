@@ -38,12 +38,12 @@ pub(super) fn value_of_map<'m: 'a, 'a>(
     form: MapForm,
     sets: &'a [Code<'m>],
     body: &'a Code<'m>,
-    env: Environment<'m, 'a>,
+    env: &Environment<'m, 'a>,
 ) -> Result<Value, Stop>
     ensures { Answers tree_of result
-        (value_in env.entry
-        (map_expr form place.now (exprs_of_codes (scope_in env.entry) sets.now)
-        (code_in env.entry body.now))) }
+        (value_in env.entry.now
+        (map_expr form place.now (exprs_of_codes (scope_in env.entry.now) sets.now)
+        (code_in env.entry.now body.now))) }
 {
     match form {
         MapForm::Image => image(alloc, place, sets, body, env),
@@ -58,12 +58,12 @@ fn image<'m: 'a, 'a>(
     place: &'a Place,
     sets: &'a [Code<'m>],
     body: &'a Code<'m>,
-    env: Environment<'m, 'a>,
+    env: &Environment<'m, 'a>,
 ) -> Result<Value, Stop>
     ensures { Answers tree_of result
-        (image_rule place.now (mean_all (exprs_of_codes (scope_in env.entry) sets.now))
-        (means (code_in env.entry body.now)) (bound_in env.entry) (present_in env.entry)
-        (next_in env.entry)) }
+        (image_rule place.now (mean_all (exprs_of_codes (scope_in env.entry.now) sets.now))
+        (means (code_in env.entry.now body.now)) (bound_in env.entry.now) (present_in env.entry.now)
+        (next_in env.entry.now)) }
 {
     let sets = evaluated_each(alloc, sets, env)?;
     let lists = known_lists(alloc, place, sets.as_slice())?;
@@ -78,12 +78,12 @@ fn function<'m: 'a, 'a>(
     place: &'a Place,
     sets: &'a [Code<'m>],
     body: &'a Code<'m>,
-    env: Environment<'m, 'a>,
+    env: &Environment<'m, 'a>,
 ) -> Result<Value, Stop>
     ensures { Answers tree_of result
-        (chosen_function_rule place.now (mean_all (exprs_of_codes (scope_in env.entry) sets.now))
-        (means (code_in env.entry body.now)) (bound_in env.entry) (present_in env.entry)
-        (next_in env.entry)) }
+        (chosen_function_rule place.now (mean_all (exprs_of_codes (scope_in env.entry.now) sets.now))
+        (means (code_in env.entry.now body.now)) (bound_in env.entry.now) (present_in env.entry.now)
+        (next_in env.entry.now)) }
 {
     let sets = evaluated_each(alloc, sets, env)?;
     function_for(alloc, place, sets.as_slice(), body, env)
@@ -96,11 +96,11 @@ fn function_for<'s, 'm: 'a, 'a>(
     place: &'a Place,
     sets: &'s [Evaluated<'s>],
     body: &'a Code<'m>,
-    env: Environment<'m, 'a>,
+    env: &Environment<'m, 'a>,
 ) -> Result<Value, Stop>
     ensures { Answers tree_of result
-        (function_for_rule place.now (means (code_in env.entry body.now)) (bound_in env.entry)
-        (present_in env.entry) (next_in env.entry) (map tree_of_evaluated sets.now)) }
+        (function_for_rule place.now (means (code_in env.entry.now body.now)) (bound_in env.entry.now)
+        (present_in env.entry.now) (next_in env.entry.now) (map tree_of_evaluated sets.now)) }
 {
     let domain = known_domain(alloc, place, sets)?;
     let lists = known_lists(alloc, place, sets)?;
@@ -114,11 +114,11 @@ fn chosen<'l, 'm: 'a, 'a>(
     alloc: Global,
     body: &'a Code<'m>,
     lists: &'l [&'l [Value]],
-    env: Environment<'m, 'a>,
+    env: &Environment<'m, 'a>,
 ) -> Result<Vec<Value>, Stop>
     ensures { Answers (λ v. map tree_of v.items) result
-        (values_for (means (code_in env.entry body.now)) (bound_in env.entry)
-        (present_in env.entry) (next_in env.entry) (map (λ l. map tree_of l.now) lists.now)) }
+        (values_for (means (code_in env.entry.now body.now)) (bound_in env.entry.now)
+        (present_in env.entry.now) (next_in env.entry.now) (map (λ l. map tree_of l.now) lists.now)) }
 {
     let mut values = Vec::new(alloc);
     for number in 0..usize::MAX {
@@ -136,12 +136,12 @@ fn chosen_once<'l, 'm: 'a, 'a>(
     alloc: Global,
     body: &'a Code<'m>,
     lists: &'l [&'l [Value]],
-    env: Environment<'m, 'a>,
+    env: &Environment<'m, 'a>,
 ) -> Result<Gathered, Stop>
     ensures { IfOk result (λ g.
         (ts : List Tree)
-        × (values_for (means (code_in env.entry body.now)) (bound_in env.entry)
-        (present_in env.entry) (next_in env.entry) (map (λ l. map tree_of l.now) lists.now)
+        × (values_for (means (code_in env.entry.now body.now)) (bound_in env.entry.now)
+        (present_in env.entry.now) (next_in env.entry.now) (map (λ l. map tree_of l.now) lists.now)
         ≡ Ok ts) × IsGathered ts g) }
 {
     let mut values = Gathered::new(alloc);
@@ -161,11 +161,11 @@ fn value_for<'l, 'm: 'a, 'a>(
     body: &'a Code<'m>,
     lists: &'l [&'l [Value]],
     number: usize,
-    env: Environment<'m, 'a>,
+    env: &Environment<'m, 'a>,
 ) -> Result<Option<Value>, Stop>
     ensures { Answers (λ o. option_map tree_of o) result
-        (value_at (means (code_in env.entry body.now)) (bound_in env.entry) (present_in env.entry)
-        (next_in env.entry)
+        (value_at (means (code_in env.entry.now body.now)) (bound_in env.entry.now) (present_in env.entry.now)
+        (next_in env.entry.now)
         (slice_get (choices (map (λ l. map tree_of l.now) lists.now)) number)) }
 {
     if lists.len() == 1 {
@@ -182,11 +182,11 @@ fn value_for_member<'l, 'm: 'a, 'a>(
     body: &'a Code<'m>,
     list: &'l [Value],
     number: usize,
-    env: Environment<'m, 'a>,
+    env: &Environment<'m, 'a>,
 ) -> Result<Option<Value>, Stop>
     ensures { Answers (λ o. option_map tree_of o) result
-        (value_at (means (code_in env.entry body.now)) (bound_in env.entry) (present_in env.entry)
-        (next_in env.entry) (slice_get (choices (map tree_of list.now ∷ [])) number)) }
+        (value_at (means (code_in env.entry.now body.now)) (bound_in env.entry.now) (present_in env.entry.now)
+        (next_in env.entry.now) (slice_get (choices (map tree_of list.now ∷ [])) number)) }
 {
     match member_of(list, number) {
         Some(value) => Ok(Some(value_with(alloc, body, value, env)?)),
@@ -201,11 +201,11 @@ fn value_for_choice<'l, 'm: 'a, 'a>(
     body: &'a Code<'m>,
     lists: &'l [&'l [Value]],
     number: usize,
-    env: Environment<'m, 'a>,
+    env: &Environment<'m, 'a>,
 ) -> Result<Option<Value>, Stop>
     ensures { Answers (λ o. option_map tree_of o) result
-        (value_at (means (code_in env.entry body.now)) (bound_in env.entry) (present_in env.entry)
-        (next_in env.entry)
+        (value_at (means (code_in env.entry.now body.now)) (bound_in env.entry.now) (present_in env.entry.now)
+        (next_in env.entry.now)
         (slice_get (choices (map (λ l. map tree_of l.now) lists.now)) number)) }
 {
     match known_choice(alloc, lists, number)? {
@@ -220,10 +220,10 @@ pub(super) fn value_with_all<'m: 'a, 'a>(
     alloc: Global,
     body: &'a Code<'m>,
     choice: &'a [Value],
-    env: Environment<'m, 'a>,
+    env: &Environment<'m, 'a>,
 ) -> Result<Value, Stop>
     ensures { Answers tree_of result
-        (value_with env.entry (map tree_of choice.now) (code_in env.entry body.now)) }
+        (value_with env.entry.now (map tree_of choice.now) (code_in env.entry.now body.now)) }
 {
     let frame = Frame::Many(env.frame, env.names, choice);
     let inner = Environment {
@@ -233,5 +233,5 @@ pub(super) fn value_with_all<'m: 'a, 'a>(
         names: count_more(env.names, choice.len())?,
         definitions: env.definitions,
     };
-    owned(alloc, value(alloc, body, inner)?)
+    owned(alloc, value(alloc, body, &inner)?)
 }

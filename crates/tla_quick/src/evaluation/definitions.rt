@@ -26,11 +26,11 @@ pub(super) fn value_of_let<'m: 'a, 'a>(
     is_used: bool,
     definition: &'a Code<'m>,
     body: &'a Code<'m>,
-    env: Environment<'m, 'a>,
+    env: &Environment<'m, 'a>,
 ) -> Result<Evaluated<'a>, Stop>
     ensures { Answers tree_of_evaluated result
-        (value_in env.entry
-        (expr_in (scope_in env.entry ++ (names, code_in env.entry definition.now) ∷ [])
+        (value_in env.entry.now
+        (expr_in (scope_in env.entry.now ++ (names, code_in env.entry.now definition.now) ∷ [])
         body.now)) }
 {
     if names != env.names {
@@ -45,7 +45,7 @@ pub(super) fn value_of_let<'m: 'a, 'a>(
     }
     let found = value(alloc, definition, env)?;
     let known = just_known(found.value());
-    Ok(Evaluated::Owned(value_under(alloc, &*definition, known, &*body, env)?))
+    Ok(Evaluated::Owned(value_under(alloc, &*definition, known, &*body, &*env)?))
 }
 
 /// The value of a body under a definition whose value may be known.
@@ -55,13 +55,13 @@ fn value_under<'m: 'a, 'a>(
     definition: &'a Code<'m>,
     known: Option<&'a Value>,
     body: &'a Code<'m>,
-    env: Environment<'m, 'a>,
+    env: &Environment<'m, 'a>,
 ) -> Result<Value, Stop>
-    requires { IsKnown known (value_in env (code_in env definition.now)) }
+    requires { IsKnown known (value_in env.now (code_in env.now definition.now)) }
     ensures { Answers tree_of result
-        (value_in env.entry
+        (value_in env.entry.now
         (expr_in
-        (scope_in env.entry ++ (env.entry.names, code_in env.entry definition.now) ∷ [])
+        (scope_in env.entry.now ++ (env.entry.now.names, code_in env.entry.now definition.now) ∷ [])
         body.now)) }
 {
     let frame = Frame::Defined(env.frame, env.definitions, env.names, definition, known);
@@ -72,7 +72,7 @@ fn value_under<'m: 'a, 'a>(
         names: env.names,
         definitions: count_more(env.definitions, 1)?,
     };
-    owned(alloc, value(alloc, &*body, inner)?)
+    owned(alloc, value(alloc, &*body, &inner)?)
 }
 
 /// Whether a body under a definition is TRUE.
@@ -83,11 +83,11 @@ pub(super) fn truth_of_let<'m: 'a, 'a>(
     is_used: bool,
     definition: &'a Code<'m>,
     body: &'a Code<'m>,
-    env: Environment<'m, 'a>,
+    env: &Environment<'m, 'a>,
 ) -> Result<bool, Stop>
     ensures { Answers truth result
-        (value_in env.entry
-        (expr_in (scope_in env.entry ++ (names, code_in env.entry definition.now) ∷ [])
+        (value_in env.entry.now
+        (expr_in (scope_in env.entry.now ++ (names, code_in env.entry.now definition.now) ∷ [])
         body.now)) }
 {
     if names != env.names {
@@ -102,7 +102,7 @@ pub(super) fn truth_of_let<'m: 'a, 'a>(
     }
     let found = value(alloc, definition, env)?;
     let known = just_known(found.value());
-    truth_under(alloc, &*definition, known, &*body, env)
+    truth_under(alloc, &*definition, known, &*body, &*env)
 }
 
 /// Whether a body is TRUE under a definition whose value may be known.
@@ -112,13 +112,13 @@ fn truth_under<'m: 'a, 'a>(
     definition: &'a Code<'m>,
     known: Option<&'a Value>,
     body: &'a Code<'m>,
-    env: Environment<'m, 'a>,
+    env: &Environment<'m, 'a>,
 ) -> Result<bool, Stop>
-    requires { IsKnown known (value_in env (code_in env definition.now)) }
+    requires { IsKnown known (value_in env.now (code_in env.now definition.now)) }
     ensures { Answers truth result
-        (value_in env.entry
+        (value_in env.entry.now
         (expr_in
-        (scope_in env.entry ++ (env.entry.names, code_in env.entry definition.now) ∷ [])
+        (scope_in env.entry.now ++ (env.entry.now.names, code_in env.entry.now definition.now) ∷ [])
         body.now)) }
 {
     let frame = Frame::Defined(env.frame, env.definitions, env.names, definition, known);
@@ -129,7 +129,7 @@ fn truth_under<'m: 'a, 'a>(
         names: env.names,
         definitions: count_more(env.definitions, 1)?,
     };
-    truth(alloc, &*body, inner)
+    truth(alloc, &*body, &inner)
 }
 
 /// Whether a value is a member of a body under a definition.
@@ -141,11 +141,11 @@ pub(super) fn has_of_let<'m: 'a, 'a>(
     definition: &'a Code<'m>,
     body: &'a Code<'m>,
     member: &'a Value,
-    env: Environment<'m, 'a>,
+    env: &Environment<'m, 'a>,
 ) -> Result<bool, Stop>
     ensures { Answers (λ b. b) result
-        (has_in env.entry (tree_of member.now)
-        (expr_in (scope_in env.entry ++ (names, code_in env.entry definition.now) ∷ [])
+        (has_in env.entry.now (tree_of member.now)
+        (expr_in (scope_in env.entry.now ++ (names, code_in env.entry.now definition.now) ∷ [])
         body.now)) }
 {
     if names != env.names {
@@ -160,7 +160,7 @@ pub(super) fn has_of_let<'m: 'a, 'a>(
     }
     let found = value(alloc, definition, env)?;
     let known = just_known(found.value());
-    has_under(alloc, &*definition, known, &*body, &*member, env)
+    has_under(alloc, &*definition, known, &*body, &*member, &*env)
 }
 
 /// Whether a value is a member of a body under a definition whose value may be known.
@@ -171,13 +171,13 @@ fn has_under<'m: 'a, 'a>(
     known: Option<&'a Value>,
     body: &'a Code<'m>,
     member: &'a Value,
-    env: Environment<'m, 'a>,
+    env: &Environment<'m, 'a>,
 ) -> Result<bool, Stop>
-    requires { IsKnown known (value_in env (code_in env definition.now)) }
+    requires { IsKnown known (value_in env.now (code_in env.now definition.now)) }
     ensures { Answers (λ b. b) result
-        (has_in env.entry (tree_of member.now)
+        (has_in env.entry.now (tree_of member.now)
         (expr_in
-        (scope_in env.entry ++ (env.entry.names, code_in env.entry definition.now) ∷ [])
+        (scope_in env.entry.now ++ (env.entry.now.names, code_in env.entry.now definition.now) ∷ [])
         body.now)) }
 {
     let frame = Frame::Defined(env.frame, env.definitions, env.names, definition, known);
@@ -188,5 +188,5 @@ fn has_under<'m: 'a, 'a>(
         names: env.names,
         definitions: count_more(env.definitions, 1)?,
     };
-    has(alloc, &*body, &*member, inner)
+    has(alloc, &*body, &*member, &inner)
 }

@@ -35,11 +35,11 @@ pub(super) fn value_of_fields<'m: 'a, 'a>(
     place: &'a Place,
     form: FieldForm,
     fields: &'a [(&'m Text, Code<'m>)],
-    env: Environment<'m, 'a>,
+    env: &Environment<'m, 'a>,
 ) -> Result<Evaluated<'a>, Stop>
     ensures { Answers tree_of_evaluated result
-        (value_in env.entry
-        (field_expr form place.now (fields_of_codes (scope_in env.entry) fields.now))) }
+        (value_in env.entry.now
+        (field_expr form place.now (fields_of_codes (scope_in env.entry.now) fields.now))) }
 {
     match form {
         FieldForm::Record => {
@@ -55,12 +55,12 @@ pub(super) fn value_of_fields<'m: 'a, 'a>(
 fn named_values<'m: 'a, 'a>(
     alloc: Global,
     fields: &'a [(&'m Text, Code<'m>)],
-    env: Environment<'m, 'a>,
+    env: &Environment<'m, 'a>,
 ) -> Result<Vec<(Value, Value)>, Stop>
     ensures { Answers (λ v. map pair_of v.items) result
         (each (λ (f : List ℕ × Meaning).
-        named_value f (bound_in env.entry) (present_in env.entry) (next_in env.entry))
-        (mean_fields (fields_of_codes (scope_in env.entry) fields.now))) }
+        named_value f (bound_in env.entry.now) (present_in env.entry.now) (next_in env.entry.now))
+        (mean_fields (fields_of_codes (scope_in env.entry.now) fields.now))) }
 {
     let mut pairs = Vec::with_capacity(alloc, fields.len())?;
     for field in fields {
@@ -77,12 +77,12 @@ pub(super) fn has_in_fields<'m: 'a, 'a>(
     form: FieldForm,
     fields: &'a [(&'m Text, Code<'m>)],
     member: &'a Value,
-    env: Environment<'m, 'a>,
+    env: &Environment<'m, 'a>,
 ) -> Result<bool, Stop>
     ensures { (p : AnyPlace)
         → Answers (λ b. b) result
-        (has_in env.entry (tree_of member.now)
-        (field_expr form p (fields_of_codes (scope_in env.entry) fields.now))) }
+        (has_in env.entry.now (tree_of member.now)
+        (field_expr form p (fields_of_codes (scope_in env.entry.now) fields.now))) }
 {
     match form {
         FieldForm::Records => is_record_of(alloc, fields, member, env),
@@ -96,12 +96,12 @@ fn is_record_of<'m: 'a, 'a>(
     alloc: Global,
     fields: &'a [(&'m Text, Code<'m>)],
     member: &'a Value,
-    env: Environment<'m, 'a>,
+    env: &Environment<'m, 'a>,
 ) -> Result<bool, Stop>
     ensures { (p : AnyPlace)
         → Answers (λ b. b) result
-        (has_in env.entry (tree_of member.now)
-        (records p (fields_of_codes (scope_in env.entry) fields.now))) }
+        (has_in env.entry.now (tree_of member.now)
+        (records p (fields_of_codes (scope_in env.entry.now) fields.now))) }
 {
     match if_function(member) {
         Some(function) => {
@@ -121,13 +121,13 @@ fn fields_have<'m: 'a, 'a>(
     alloc: Global,
     fields: &'a [(&'m Text, Code<'m>)],
     function: &'a FunValue,
-    env: Environment<'m, 'a>,
+    env: &Environment<'m, 'a>,
 ) -> Result<bool, Stop>
     ensures { Answers (λ b. b) result
         (all_hold
-        (field_has function.now (bound_in env.entry) (present_in env.entry)
-        (next_in env.entry))
-        (mean_fields (fields_of_codes (scope_in env.entry) fields.now))) }
+        (field_has function.now (bound_in env.entry.now) (present_in env.entry.now)
+        (next_in env.entry.now))
+        (mean_fields (fields_of_codes (scope_in env.entry.now) fields.now))) }
 {
     for field in fields {
         match field_in(function, field.0) {

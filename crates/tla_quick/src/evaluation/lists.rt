@@ -32,11 +32,11 @@ pub(super) fn value_of_list<'m: 'a, 'a>(
     place: &'a Place,
     form: ListForm,
     parts: &'a [Code<'m>],
-    env: Environment<'m, 'a>,
+    env: &Environment<'m, 'a>,
 ) -> Result<Evaluated<'a>, Stop>
     ensures { Answers tree_of_evaluated result
-        (value_in env.entry
-        (list_expr form place.now (exprs_of_codes (scope_in env.entry) parts.now))) }
+        (value_in env.entry.now
+        (list_expr form place.now (exprs_of_codes (scope_in env.entry.now) parts.now))) }
 {
     match form {
         ListForm::Conjunction | ListForm::Disjunction => Ok(Evaluated::truth(truth_of_list(
@@ -62,17 +62,17 @@ pub(super) fn value_of_list<'m: 'a, 'a>(
 pub(super) fn taken_part<'m: 'a, 'a>(
     alloc: Global,
     parts: &'a [Code<'m>],
-    env: Environment<'m, 'a>,
+    env: &Environment<'m, 'a>,
 ) -> Result<usize, Stop>
     ensures within { IfOk result (λ i. i < length parts.now) }
     ensures value { (p : AnyPlace) (d : Code)
         → IfOk result (λ i.
-        value_in env.entry (cases p (arms_in (exprs_of_codes (scope_in env.entry) parts.now)))
-        ≡ value_in env.entry (code_in env.entry (slice_index_or parts.now i d))) }
+        value_in env.entry.now (cases p (arms_in (exprs_of_codes (scope_in env.entry.now) parts.now)))
+        ≡ value_in env.entry.now (code_in env.entry.now (slice_index_or parts.now i d))) }
     ensures members { (p : AnyPlace) (d : Code) (v : Tree)
         → IfOk result (λ i.
-        has_in env.entry v (cases p (arms_in (exprs_of_codes (scope_in env.entry) parts.now)))
-        ≡ has_in env.entry v (code_in env.entry (slice_index_or parts.now i d))) }
+        has_in env.entry.now v (cases p (arms_in (exprs_of_codes (scope_in env.entry.now) parts.now)))
+        ≡ has_in env.entry.now v (code_in env.entry.now (slice_index_or parts.now i d))) }
 {
     let arms = parts.len() / 2;
     for arm in 0..arms {
@@ -93,12 +93,12 @@ pub(super) fn taken_part<'m: 'a, 'a>(
 fn values_of<'m: 'a, 'a>(
     alloc: Global,
     codes: &'a [Code<'m>],
-    env: Environment<'m, 'a>,
+    env: &Environment<'m, 'a>,
 ) -> Result<Vec<Value>, Stop>
     ensures { Answers (λ v. map tree_of v.items) result
         (each (λ (m : Meaning).
-        m.value (bound_in env.entry) (present_in env.entry) (next_in env.entry))
-        (mean_all (exprs_of_codes (scope_in env.entry) codes.now))) }
+        m.value (bound_in env.entry.now) (present_in env.entry.now) (next_in env.entry.now))
+        (mean_all (exprs_of_codes (scope_in env.entry.now) codes.now))) }
 {
     let mut values = Vec::with_capacity(alloc, codes.len())?;
     for code in codes {
@@ -112,12 +112,12 @@ fn values_of<'m: 'a, 'a>(
 pub(super) fn evaluated_each<'m: 'a, 'a>(
     alloc: Global,
     codes: &'a [Code<'m>],
-    env: Environment<'m, 'a>,
+    env: &Environment<'m, 'a>,
 ) -> Result<Vec<Evaluated<'a>>, Stop>
     ensures { Answers (λ v. map tree_of_evaluated v.items) result
         (each (λ (m : Meaning).
-        m.value (bound_in env.entry) (present_in env.entry) (next_in env.entry))
-        (mean_all (exprs_of_codes (scope_in env.entry) codes.now))) }
+        m.value (bound_in env.entry.now) (present_in env.entry.now) (next_in env.entry.now))
+        (mean_all (exprs_of_codes (scope_in env.entry.now) codes.now))) }
 {
     let mut values = Vec::with_capacity(alloc, codes.len())?;
     for code in codes {

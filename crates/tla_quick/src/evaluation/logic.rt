@@ -13,6 +13,7 @@ ghost use Rattle.tla_quick.specs.Private.Environment.{code_in, value_in, has_in,
 use crate::environment::Environment;
 use crate::evaluation::held::held;
 use crate::evaluation::lists::taken_part;
+use crate::evaluation::numbers::{is_order, order_of_two};
 use crate::evaluation::{has, truth, value, value_of_form};
 use crate::made::{compared, known_members};
 use crate::stop::Stop;
@@ -27,11 +28,11 @@ pub(super) fn truth_of_one<'m: 'a, 'a>(
     alloc: Global,
     form: OneForm<'m>,
     operand: &'a Code<'m>,
-    env: Environment<'m, 'a>,
+    env: &Environment<'m, 'a>,
 ) -> Result<bool, Stop>
     ensures { (p : AnyPlace)
         → Answers truth result
-        (value_in env.entry (one_expr form.entry p (code_in env.entry operand.now))) }
+        (value_in env.entry.now (one_expr form.entry p (code_in env.entry.now operand.now))) }
 {
     match form {
         OneForm::Operator(operator) => match operator {
@@ -50,11 +51,11 @@ pub(super) fn truth_of_two<'m: 'a, 'a>(
     form: TwoForm,
     left: &'a Code<'m>,
     right: &'a Code<'m>,
-    env: Environment<'m, 'a>,
+    env: &Environment<'m, 'a>,
 ) -> Result<bool, Stop>
     ensures { Answers truth result
-        (value_in env.entry
-        (two_expr form place.now (code_in env.entry left.now) (code_in env.entry right.now))) }
+        (value_in env.entry.now
+        (two_expr form place.now (code_in env.entry.now left.now) (code_in env.entry.now right.now))) }
 {
     match form {
         TwoForm::Implies => {
@@ -71,7 +72,10 @@ pub(super) fn truth_of_two<'m: 'a, 'a>(
             let members = known_members(set.value())?;
             Ok(has_all(alloc, right, members, env)?)
         }
-        _ => match held(alloc, left, &env) {
+        TwoForm::Operator(operator) if is_order(operator) => {
+            order_of_two(alloc, place, operator, left, right, env)
+        }
+        _ => match held(alloc, left, env) {
             Some(value) => compared_with(alloc, place, form, value, right, env),
             None => {
                 let left = value_of_form(alloc, left, env)?;
@@ -87,16 +91,16 @@ fn is_member<'m: 'a, 'a>(
     alloc: Global,
     left: &'a Code<'m>,
     right: &'a Code<'m>,
-    env: Environment<'m, 'a>,
+    env: &Environment<'m, 'a>,
 ) -> Result<bool, Stop>
     ensures { Answers (λ b. b) result
-        (member_in env.entry (code_in env.entry left.now) (code_in env.entry right.now)) }
+        (member_in env.entry.now (code_in env.entry.now left.now) (code_in env.entry.now right.now)) }
 {
-    match held(alloc, left, &env) {
+    match held(alloc, left, env) {
         Some(element) => has(alloc, right, element, env),
         None => {
             let element = value_of_form(alloc, left, env)?;
-            has(alloc, &*right, element.value(), env)
+            has(alloc, &*right, element.value(), &*env)
         }
     }
 }
@@ -109,14 +113,14 @@ fn compared_with<'m: 'a, 'a>(
     form: TwoForm,
     left: &Value,
     right: &'a Code<'m>,
-    env: Environment<'m, 'a>,
+    env: &Environment<'m, 'a>,
 ) -> Result<bool, Stop>
     ensures { (e : Expr)
-        → value_in env.entry e ≡ Ok (tree_of left.now)
+        → value_in env.entry.now e ≡ Ok (tree_of left.now)
         → Answers truth result
-        (value_in env.entry (two_expr form place.now e (code_in env.entry right.now))) }
+        (value_in env.entry.now (two_expr form place.now e (code_in env.entry.now right.now))) }
 {
-    match held(alloc, right, &env) {
+    match held(alloc, right, env) {
         Some(value) => compared(place, form, left, value),
         None => {
             let right = value_of_form(alloc, right, env)?;
@@ -133,13 +137,13 @@ pub(super) fn truth_of_three<'m: 'a, 'a>(
     first: &'a Code<'m>,
     second: &'a Code<'m>,
     third: &'a Code<'m>,
-    env: Environment<'m, 'a>,
+    env: &Environment<'m, 'a>,
 ) -> Result<bool, Stop>
     ensures { (p : AnyPlace)
         → Answers truth result
-        (value_in env.entry
-        (three_expr form p (code_in env.entry first.now) (code_in env.entry second.now)
-        (code_in env.entry third.now))) }
+        (value_in env.entry.now
+        (three_expr form p (code_in env.entry.now first.now) (code_in env.entry.now second.now)
+        (code_in env.entry.now third.now))) }
 {
     match form {
         ThreeForm::If => {
@@ -159,12 +163,12 @@ pub(super) fn truth_of_list<'m: 'a, 'a>(
     alloc: Global,
     form: ListForm,
     parts: &'a [Code<'m>],
-    env: Environment<'m, 'a>,
+    env: &Environment<'m, 'a>,
 ) -> Result<bool, Stop>
     ensures { (p : AnyPlace)
         → Answers truth result
-        (value_in env.entry
-        (list_expr form p (exprs_of_codes (scope_in env.entry) parts.now))) }
+        (value_in env.entry.now
+        (list_expr form p (exprs_of_codes (scope_in env.entry.now) parts.now))) }
 {
     match form {
         ListForm::Conjunction => all_are_true(alloc, parts, env),
@@ -182,11 +186,11 @@ pub(super) fn truth_of_list<'m: 'a, 'a>(
 fn all_are_true<'m: 'a, 'a>(
     alloc: Global,
     parts: &'a [Code<'m>],
-    env: Environment<'m, 'a>,
+    env: &Environment<'m, 'a>,
 ) -> Result<bool, Stop>
     ensures { (p : AnyPlace)
         → Answers truth result
-        (value_in env.entry (conjunction p (exprs_of_codes (scope_in env.entry) parts.now))) }
+        (value_in env.entry.now (conjunction p (exprs_of_codes (scope_in env.entry.now) parts.now))) }
 {
     for part in parts {
         if !truth(alloc, part, env)? {
@@ -201,11 +205,11 @@ fn all_are_true<'m: 'a, 'a>(
 fn some_is_true<'m: 'a, 'a>(
     alloc: Global,
     parts: &'a [Code<'m>],
-    env: Environment<'m, 'a>,
+    env: &Environment<'m, 'a>,
 ) -> Result<bool, Stop>
     ensures { (p : AnyPlace)
         → Answers truth result
-        (value_in env.entry (disjunction p (exprs_of_codes (scope_in env.entry) parts.now))) }
+        (value_in env.entry.now (disjunction p (exprs_of_codes (scope_in env.entry.now) parts.now))) }
 {
     for part in parts {
         if truth(alloc, part, env)? {
@@ -221,10 +225,10 @@ pub(super) fn has_all<'m: 'a, 'a>(
     alloc: Global,
     code: &'a Code<'m>,
     values: &'a [Value],
-    env: Environment<'m, 'a>,
+    env: &Environment<'m, 'a>,
 ) -> Result<bool, Stop>
     ensures { Answers (λ b. b) result
-        (all_hold (λ v. has_in env.entry v (code_in env.entry code.now))
+        (all_hold (λ v. has_in env.entry.now v (code_in env.entry.now code.now))
         (map tree_of values.now)) }
 {
     for value in values {

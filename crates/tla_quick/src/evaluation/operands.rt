@@ -6,6 +6,7 @@ ghost use Rattle.tla_quick.specs.Private.Environment.{code_in, value_in};
 
 use crate::environment::Environment;
 use crate::evaluation::logic::truth_of_two;
+use crate::evaluation::numbers::{is_arithmetic, number_of_two};
 use crate::evaluation::{gives_truth, truth, value};
 use crate::made::{made_of_one, made_of_three, made_of_two};
 use crate::stop::Stop;
@@ -13,6 +14,7 @@ use std::alloc::Global;
 use tla_code::{Code, OneForm, ThreeForm, TwoForm};
 use tla_core::Place;
 use tla_operators::evaluated::Evaluated;
+use tla_value::Value;
 
 /// The value of a form with one operand.
 #[cycle(evaluate)]
@@ -22,10 +24,10 @@ pub(super) fn value_of_one<'m: 'a, 'a>(
     place: &'a Place,
     form: OneForm<'m>,
     operand: &'a Code<'m>,
-    env: Environment<'m, 'a>,
+    env: &Environment<'m, 'a>,
 ) -> Result<Evaluated<'a>, Stop>
     ensures { Answers tree_of_evaluated result
-        (value_in env.entry (one_expr form.entry place.now (code_in env.entry operand.now))) }
+        (value_in env.entry.now (one_expr form.entry place.now (code_in env.entry.now operand.now))) }
 {
     let operand = value(alloc, operand, env)?;
     made_of_one(alloc, place, form, operand)
@@ -39,14 +41,21 @@ pub(super) fn value_of_two<'m: 'a, 'a>(
     form: TwoForm,
     left: &'a Code<'m>,
     right: &'a Code<'m>,
-    env: Environment<'m, 'a>,
+    env: &Environment<'m, 'a>,
 ) -> Result<Evaluated<'a>, Stop>
     ensures { Answers tree_of_evaluated result
-        (value_in env.entry
-        (two_expr form place.now (code_in env.entry left.now) (code_in env.entry right.now))) }
+        (value_in env.entry.now
+        (two_expr form place.now (code_in env.entry.now left.now) (code_in env.entry.now right.now))) }
 {
     if gives_truth(form) {
         return Ok(Evaluated::truth(truth_of_two(alloc, place, form, left, right, env)?));
+    }
+    if let TwoForm::Operator(operator) = form {
+        if is_arithmetic(operator) {
+            return Ok(Evaluated::Owned(Value::Int(number_of_two(
+                alloc, place, operator, left, right, env,
+            )?)));
+        }
     }
     let left = value(alloc, left, env)?;
     let right = value(alloc, right, env)?;
@@ -63,12 +72,12 @@ pub(super) fn value_of_three<'m: 'a, 'a>(
     first: &'a Code<'m>,
     second: &'a Code<'m>,
     third: &'a Code<'m>,
-    env: Environment<'m, 'a>,
+    env: &Environment<'m, 'a>,
 ) -> Result<Evaluated<'a>, Stop>
     ensures { Answers tree_of_evaluated result
-        (value_in env.entry
-        (three_expr form place.now (code_in env.entry first.now) (code_in env.entry second.now)
-        (code_in env.entry third.now))) }
+        (value_in env.entry.now
+        (three_expr form place.now (code_in env.entry.now first.now) (code_in env.entry.now second.now)
+        (code_in env.entry.now third.now))) }
 {
     match form {
         ThreeForm::If => {

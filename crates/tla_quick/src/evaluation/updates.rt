@@ -30,12 +30,12 @@ pub(super) fn value_of_except<'m: 'a, 'a>(
     place: &'a Place,
     updates: &'a [(Vec<Code<'m>>, Code<'m>)],
     base: &'a Code<'m>,
-    env: Environment<'m, 'a>,
+    env: &Environment<'m, 'a>,
 ) -> Result<Evaluated<'a>, Stop>
     ensures { Answers tree_of_evaluated result
-        (value_in env.entry
-        (except place.now (code_in env.entry base.now)
-        (updates_of_codes (scope_in env.entry) updates.now))) }
+        (value_in env.entry.now
+        (except place.now (code_in env.entry.now base.now)
+        (updates_of_codes (scope_in env.entry.now) updates.now))) }
 {
     let base = value(alloc, base, env)?;
     updated_by_all(alloc, place, updates, base, env)
@@ -48,11 +48,11 @@ fn updated_by_all<'m: 'a, 'a>(
     place: &'a Place,
     updates: &'a [(Vec<Code<'m>>, Code<'m>)],
     base: Evaluated<'a>,
-    env: Environment<'m, 'a>,
+    env: &Environment<'m, 'a>,
 ) -> Result<Evaluated<'a>, Stop>
     ensures { Answers tree_of_evaluated result
-        (update_all place.now (mean_updates (updates_of_codes (scope_in env.entry) updates.now))
-        (bound_in env.entry) (present_in env.entry) (next_in env.entry)
+        (update_all place.now (mean_updates (updates_of_codes (scope_in env.entry.now) updates.now))
+        (bound_in env.entry.now) (present_in env.entry.now) (next_in env.entry.now)
         (tree_of_evaluated base.entry)) }
 {
     let mut value = base;
@@ -71,15 +71,15 @@ fn updated<'m: 'a, 'a>(
     keys: &'a [Code<'m>],
     body: &'a Code<'m>,
     value: Evaluated<'a>,
-    env: Environment<'m, 'a>,
+    env: &Environment<'m, 'a>,
 ) -> Result<Value, Stop>
     ensures { Answers tree_of result
-        (update place.now (mean_all (exprs_of_codes (scope_in env.entry) keys.now))
-        (means (code_in env.entry body.now)) (bound_in env.entry) (present_in env.entry)
-        (next_in env.entry) (tree_of_evaluated value.entry)) }
+        (update place.now (mean_all (exprs_of_codes (scope_in env.entry.now) keys.now))
+        (means (code_in env.entry.now body.now)) (bound_in env.entry.now) (present_in env.entry.now)
+        (next_in env.entry.now) (tree_of_evaluated value.entry)) }
 {
     match keys.split_first() {
-        None => value_with(alloc, &*body, value.value(), env),
+        None => value_with(alloc, &*body, value.value(), &*env),
         Some((key, rest)) => updated_at(alloc, place, rest, key, body, value, env),
     }
 }
@@ -93,13 +93,13 @@ fn updated_at<'m: 'a, 'a>(
     key: &'a Code<'m>,
     body: &'a Code<'m>,
     base: Evaluated<'a>,
-    env: Environment<'m, 'a>,
+    env: &Environment<'m, 'a>,
 ) -> Result<Value, Stop>
     ensures { Answers tree_of result
         (update place.now
-        (means (code_in env.entry key.now) ∷ mean_all
-        (exprs_of_codes (scope_in env.entry) rest.now)) (means (code_in env.entry body.now))
-        (bound_in env.entry) (present_in env.entry) (next_in env.entry)
+        (means (code_in env.entry.now key.now) ∷ mean_all
+        (exprs_of_codes (scope_in env.entry.now) rest.now)) (means (code_in env.entry.now body.now))
+        (bound_in env.entry.now) (present_in env.entry.now) (next_in env.entry.now)
         (tree_of_evaluated base.entry)) }
 {
     let function = known_function(alloc, place, base)?;
@@ -108,7 +108,7 @@ fn updated_at<'m: 'a, 'a>(
         None => Ok(owned_function(function)),
         Some(old) => {
             let lent = Evaluated::Borrowed(old);
-            let new = updated(alloc, &*place, &*rest, &*body, lent, env)?;
+            let new = updated(alloc, &*place, &*rest, &*body, lent, &*env)?;
             made_function(place, function.with_value(key.value(), new))
         }
     }
@@ -120,11 +120,11 @@ pub(super) fn opened<'m: 'a, 'a>(
     alloc: Global,
     openings: &'a [Opening],
     body: &'a Code<'m>,
-    env: Environment<'m, 'a>,
+    env: &Environment<'m, 'a>,
 ) -> Result<Evaluated<'a>, Stop>
     ensures { (p : AnyPlace)
         → Answers tree_of_evaluated result
-        (value_in env.entry (opened p openings.now (code_in env.entry body.now))) }
+        (value_in env.entry.now (opened p openings.now (code_in env.entry.now body.now))) }
 {
     let items = open_items(alloc, openings, env)?;
     Ok(Evaluated::Owned(value_with_all(alloc, body, items.as_slice(), env)?))

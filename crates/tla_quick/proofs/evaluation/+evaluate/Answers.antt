@@ -41,59 +41,59 @@ use Rattle.tla_quick.proofs.evaluation.+evaluate.Goals as goal
 pub value_of_form-returns-in-List : goal.value_of_form-returns-in-List
 value_of_form-returns-in-List t c =
     let n = c.in-List in
-    let scope = scope_in c.args.env in
+    let scope = scope_in c.args.env.now in
     let e = ap (expr_in scope) n.is ∙ list_in scope n.place n.form n.parts ∙ ap (λ us. list_expr n.form n.place (exprs_of_codes scope us)) (sym c.deref-in-List.ensures.value) in
-    same_answer tree_of_evaluated c.value_of_list.result _ _ (ap (value_in c.args.env) e) c.value_of_list.ensures
+    same_answer tree_of_evaluated c.value_of_list.result _ _ (ap (value_in c.args.env.now) e) c.value_of_list.ensures
 
 pub value_of_other-returns-in-Fields : goal.value_of_other-returns-in-Fields
 value_of_other-returns-in-Fields t c =
     let n = c.in-Fields in
-    let scope = scope_in c.args.env in
+    let scope = scope_in c.args.env.now in
     let e = ap (expr_in scope) n.is ∙ fields_of_in scope n.place n.form n.fields ∙ ap (λ us. field_expr n.form n.place (fields_of_codes scope us)) (sym c.deref-in-Fields.ensures.value) in
-    same_answer tree_of_evaluated c.value_of_fields.result _ _ (ap (value_in c.args.env) e) c.value_of_fields.ensures
+    same_answer tree_of_evaluated c.value_of_fields.result _ _ (ap (value_in c.args.env.now) e) c.value_of_fields.ensures
 
 pub value_of_other-returns-in_ok-value_of_map-in-Map : goal.value_of_other-returns-in_ok-value_of_map-in-Map
 value_of_other-returns-in_ok-value_of_map-in-Map t c =
     let n = c.in-Map in
-    let scope = scope_in c.args.env in
+    let scope = scope_in c.args.env.now in
     let e = ap (expr_in scope) n.is ∙ map_in scope n.place n.form n.sets n.body
     ∙ ap (λ us. map_expr n.form n.place (exprs_of_codes scope us) (expr_in scope n.body.value)) (sym c.deref-in-Map.ensures.value)
     ∙ ap (λ (k : Code). map_expr n.form n.place (exprs_of_codes scope c.deref-in-Map.result.now) (expr_in scope k)) (sym c.deref-in-Map-2.ensures) in
-    ap (value_in c.args.env) e ∙ c.in_ok-value_of_map-in-Map.ensures
+    ap (value_in c.args.env.now) e ∙ c.in_ok-value_of_map-in-Map.ensures
 
 pub value_of_other-returns-in-Except : goal.value_of_other-returns-in-Except
 value_of_other-returns-in-Except t c =
     let n = c.in-Except in
-    let scope = scope_in c.args.env in
+    let scope = scope_in c.args.env.now in
     let e = ap (expr_in scope) n.is ∙ except_of_in scope n.place n.base n.updates
     ∙ ap (λ us. except n.place (expr_in scope n.base.value) (updates_of_codes scope us)) (sym c.deref-in-Except.ensures.value)
     ∙ ap (λ (k : Code). except n.place (expr_in scope k) (updates_of_codes scope c.deref-in-Except.result.now)) (sym c.deref-in-Except-2.ensures) in
-    same_answer tree_of_evaluated c.value_of_except.result _ _ (ap (value_in c.args.env) e) c.value_of_except.ensures
+    same_answer tree_of_evaluated c.value_of_except.result _ _ (ap (value_in c.args.env.now) e) c.value_of_except.ensures
 
 pub truth-returns-in-List : goal.truth-returns-in-List
 truth-returns-in-List t c =
     let n = c.in-List in
-    let scope = scope_in c.args.env in
+    let scope = scope_in c.args.env.now in
     let e = ap (expr_in scope) n.is ∙ list_in scope n.field-0 n.form n.parts ∙ ap (λ us. list_expr n.form n.field-0 (exprs_of_codes scope us)) (sym c.deref-in-List.ensures.value) in
-    same_answer truth c.truth_of_list.result _ _ (ap (value_in c.args.env) e) (c.truth_of_list.ensures n.field-0)
+    same_answer truth c.truth_of_list.result _ _ (ap (value_in c.args.env.now) e) (c.truth_of_list.ensures n.field-0)
 
 pub has-returns-in-List : goal.has-returns-in-List
 has-returns-in-List t c =
     let n = c.in-List in
-    let scope = scope_in c.args.env in
+    let scope = scope_in c.args.env.now in
     let e = ap (expr_in scope) n.is ∙ list_in scope n.place n.form n.parts ∙ ap (λ us. list_expr n.form n.place (exprs_of_codes scope us)) (sym c.deref-in-List.ensures.value) in
-    same_answer (λ (b : Bool). b) c.has_in_list.result _ _ (ap (has_in c.args.env (tree_of c.args.member.now)) e) c.has_in_list.ensures
+    same_answer (λ (b : Bool). b) c.has_in_list.result _ _ (ap (has_in c.args.env.now (tree_of c.args.member.now)) e) c.has_in_list.ensures
 
 pub has-returns-in-Fields : goal.has-returns-in-Fields
 has-returns-in-Fields t c =
     let n = c.in-Fields in
-    let scope = scope_in c.args.env in
+    let scope = scope_in c.args.env.now in
     let e = ap (expr_in scope) n.is ∙ fields_of_in scope n.field-0 n.form n.fields ∙ ap (λ us. field_expr n.form n.field-0 (fields_of_codes scope us)) (sym c.deref-in-Fields.ensures.value) in
-    same_answer (λ (b : Bool). b) c.has_in_fields.result _ _ (ap (has_in c.args.env (tree_of c.args.member.now)) e) (c.has_in_fields.ensures n.field-0)
+    same_answer (λ (b : Bool). b) c.has_in_fields.result _ _ (ap (has_in c.args.env.now (tree_of c.args.member.now)) e) (c.has_in_fields.ensures n.field-0)
 
 pub fields::value_of_fields-returns-in_ok-made_record-in-Record : goal.fields::value_of_fields-returns-in_ok-made_record-in-Record
 fields::value_of_fields-returns-in_ok-made_record-in-Record t c =
-    let env = c.args.env in
+    let env = c.args.env.now in
     let p = c.args.place.now in
     ap (λ (f : FieldForm). value_in env (field_expr f p (fields_of_codes (scope_in env) c.args.fields.now))) c.in-Record.is
     ∙ record_is p (mean_fields (fields_of_codes (scope_in env) c.args.fields.now)) (bound_in env) (present_in env) (next_in env)
@@ -114,49 +114,49 @@ told p e b s t o v (Err f) h k = tt
 
 pub binding::holds_at-returns : goal.binding::holds_at-returns
 binding::holds_at-returns t c =
-    told c.args.place.now (code_in c.args.env c.args.body.now) (bound_in c.args.env) (present_in c.args.env) (next_in c.args.env) (slice_get (elements_of c.args.elements.now) c.args.number) (tree_of c.value.result.now) c.truth_with.result
+    told c.args.place.now (code_in c.args.env.now c.args.body.now) (bound_in c.args.env.now) (present_in c.args.env.now) (next_in c.args.env.now) (slice_get (elements_of c.args.elements.now) c.args.number) (tree_of c.value.result.now) c.truth_with.result
     (sym c.element_at-element.ensures ∙ ap (λ v. Some v) (sym c.value.ensures)) c.truth_with.ensures
 
 pub binding::each_holds-loop-number-preserved : goal.binding::each_holds-loop-number-preserved
-binding::each_holds-loop-number-preserved t c = c.loop-number.invariant ∙ all_more (body_of c.args.place.now c.args.body.now c.args.env) (elements_of c.args.elements.now) c.loop-number.number c.in_ok-holds.holds c.in_ok-holds.ensures c.if-not-holds.false
+binding::each_holds-loop-number-preserved t c = c.loop-number.invariant ∙ all_more (body_of c.args.place.now c.args.body.now c.args.env.now) (elements_of c.args.elements.now) c.loop-number.number c.in_ok-holds.holds c.in_ok-holds.ensures c.if-not-holds.false
 
 pub binding::each_holds-returns-then-not-holds : goal.binding::each_holds-returns-then-not-holds
 binding::each_holds-returns-then-not-holds t c =
-    c.loop-number.invariant ∙ all_stop (body_of c.args.place.now c.args.body.now c.args.env) (elements_of c.args.elements.now) c.loop-number.number c.in_ok-holds.holds c.in_ok-holds.ensures c.if-not-holds.true
+    c.loop-number.invariant ∙ all_stop (body_of c.args.place.now c.args.body.now c.args.env.now) (elements_of c.args.elements.now) c.loop-number.number c.in_ok-holds.holds c.in_ok-holds.ensures c.if-not-holds.true
 
 pub binding::each_holds-returns : goal.binding::each_holds-returns
-binding::each_holds-returns t c = c.loop-number.invariant ∙ all_end (body_of c.args.place.now c.args.body.now c.args.env) (elements_of c.args.elements.now) c.loop-number.number (subst (λ n. n ≤ c.loop-number.number) c.count_of-number-end.ensures c.loop-number-test.false)
+binding::each_holds-returns t c = c.loop-number.invariant ∙ all_end (body_of c.args.place.now c.args.body.now c.args.env.now) (elements_of c.args.elements.now) c.loop-number.number (subst (λ n. n ≤ c.loop-number.number) c.count_of-number-end.ensures c.loop-number-test.false)
 
 pub binding::some_holds-loop-number-preserved : goal.binding::some_holds-loop-number-preserved
-binding::some_holds-loop-number-preserved t c = c.loop-number.invariant ∙ some_more (body_of c.args.place.now c.args.body.now c.args.env) (elements_of c.args.elements.now) c.loop-number.number c.in_ok-holds.holds c.in_ok-holds.ensures c.if-holds.false
+binding::some_holds-loop-number-preserved t c = c.loop-number.invariant ∙ some_more (body_of c.args.place.now c.args.body.now c.args.env.now) (elements_of c.args.elements.now) c.loop-number.number c.in_ok-holds.holds c.in_ok-holds.ensures c.if-holds.false
 
 pub binding::some_holds-returns-then-holds : goal.binding::some_holds-returns-then-holds
 binding::some_holds-returns-then-holds t c =
-    c.loop-number.invariant ∙ some_stop (body_of c.args.place.now c.args.body.now c.args.env) (elements_of c.args.elements.now) c.loop-number.number c.in_ok-holds.holds c.in_ok-holds.ensures c.if-holds.true
+    c.loop-number.invariant ∙ some_stop (body_of c.args.place.now c.args.body.now c.args.env.now) (elements_of c.args.elements.now) c.loop-number.number c.in_ok-holds.holds c.in_ok-holds.ensures c.if-holds.true
 
 pub binding::some_holds-returns : goal.binding::some_holds-returns
-binding::some_holds-returns t c = c.loop-number.invariant ∙ some_end (body_of c.args.place.now c.args.body.now c.args.env) (elements_of c.args.elements.now) c.loop-number.number (subst (λ n. n ≤ c.loop-number.number) c.count_of-number-end.ensures c.loop-number-test.false)
+binding::some_holds-returns t c = c.loop-number.invariant ∙ some_end (body_of c.args.place.now c.args.body.now c.args.env.now) (elements_of c.args.elements.now) c.loop-number.number (subst (λ n. n ≤ c.loop-number.number) c.count_of-number-end.ensures c.loop-number-test.false)
 
 pub binding::first_passing-loop-number-preserved : goal.binding::first_passing-loop-number-preserved
-binding::first_passing-loop-number-preserved t c = c.loop-number.invariant ∙ least_more (body_of c.args.place.now c.args.body.now c.args.env) (elements_of c.args.elements.now) c.loop-number.number c.args.place.now c.in_ok-holds.holds c.in_ok-holds.ensures c.if-holds.false
+binding::first_passing-loop-number-preserved t c = c.loop-number.invariant ∙ least_more (body_of c.args.place.now c.args.body.now c.args.env.now) (elements_of c.args.elements.now) c.loop-number.number c.args.place.now c.in_ok-holds.holds c.in_ok-holds.ensures c.if-holds.false
 
 pub binding::first_passing-returns-then-holds : goal.binding::first_passing-returns-then-holds
 binding::first_passing-returns-then-holds t c =
-    let e = c.loop-number.invariant ∙ least_stop (body_of c.args.place.now c.args.body.now c.args.env) (elements_of c.args.elements.now) c.loop-number.number c.args.place.now c.in_ok-holds.holds c.in_ok-holds.ensures c.if-holds.true in
+    let e = c.loop-number.invariant ∙ least_stop (body_of c.args.place.now c.args.body.now c.args.env.now) (elements_of c.args.elements.now) c.loop-number.number c.args.place.now c.in_ok-holds.holds c.in_ok-holds.ensures c.if-holds.true in
     same_answer tree_of c.chosen.result _ _ e (c.chosen.ensures c.args.place.now)
 
 pub binding::passing-loop-number-preserved : goal.binding::passing-loop-number-preserved
 binding::passing-loop-number-preserved t c =
     c.loop-number.invariant
-    ∙ kept_more (body_of c.args.place.now c.args.body.now c.args.env) (elements_of c.args.elements.now) c.loop-number.number (map tree_of c.loop-number.kept.items) (map tree_of c.keep.new.kept.items) c.in_ok-holds.holds c.in_ok-holds.ensures c.in_ok-keep.ensures
+    ∙ kept_more (body_of c.args.place.now c.args.body.now c.args.env.now) (elements_of c.args.elements.now) c.loop-number.number (map tree_of c.loop-number.kept.items) (map tree_of c.keep.new.kept.items) c.in_ok-holds.holds c.in_ok-holds.ensures c.in_ok-keep.ensures
 
 pub binding::passing-returns : goal.binding::passing-returns
-binding::passing-returns t c = c.loop-number.invariant ∙ kept_end (body_of c.args.place.now c.args.body.now c.args.env) (elements_of c.args.elements.now) c.loop-number.number (map tree_of c.loop-number.kept.items) (subst (λ n. n ≤ c.loop-number.number) c.count_of-number-end.ensures c.loop-number-test.false)
+binding::passing-returns t c = c.loop-number.invariant ∙ kept_end (body_of c.args.place.now c.args.body.now c.args.env.now) (elements_of c.args.elements.now) c.loop-number.number (map tree_of c.loop-number.kept.items) (subst (λ n. n ≤ c.loop-number.number) c.count_of-number-end.ensures c.loop-number-test.false)
 
 -- ---- choices
 pub choices::function_for-made_function_with-requires : goal.choices::function_for-made_function_with-requires
 choices::function_for-made_function_with-requires t c =
-    let env = c.args.env in
+    let env = c.args.env.now in
     let p = c.args.place.now in
     let m = means (code_in env c.args.body.now) in
     let vs = map tree_of_evaluated c.args.sets.now in
@@ -167,7 +167,7 @@ choices::function_for-made_function_with-requires t c =
 
 pub choices::function_for-returns : goal.choices::function_for-returns
 choices::function_for-returns t c =
-    let env = c.args.env in
+    let env = c.args.env.now in
     let p = c.args.place.now in
     let m = means (code_in env c.args.body.now) in
     let vs = map tree_of_evaluated c.args.sets.now in
@@ -180,7 +180,7 @@ choices::function_for-returns t c =
 
 pub choices::chosen-loop-number-preserved : goal.choices::chosen-loop-number-preserved
 choices::chosen-loop-number-preserved t c =
-    let env = c.args.env in
+    let env = c.args.env.now in
     let m = means (code_in env c.args.body.now) in
     let v = c.in-Some.value in
     c.loop-number.invariant
@@ -189,7 +189,7 @@ choices::chosen-loop-number-preserved t c =
 
 pub choices::chosen-returns-in-None : goal.choices::chosen-returns-in-None
 choices::chosen-returns-in-None t c =
-    let env = c.args.env in
+    let env = c.args.env.now in
     let m = means (code_in env c.args.body.now) in
     c.loop-number.invariant
     ∙ value_end m (bound_in env) (present_in env) (next_in env) (choices (trees_in c.args.lists.now)) c.loop-number.number (map tree_of c.loop-number.values.items)
@@ -197,7 +197,7 @@ choices::chosen-returns-in-None t c =
 
 pub choices::chosen_once-loop-number-preserved : goal.choices::chosen_once-loop-number-preserved
 choices::chosen_once-loop-number-preserved t c =
-    let env = c.args.env in
+    let env = c.args.env.now in
     let m = means (code_in env c.args.body.now) in
     let v = tree_of c.in-Some.value in
     let kept = c.loop-number.invariant.0 in (
@@ -210,7 +210,7 @@ choices::chosen_once-loop-number-preserved t c =
 
 pub choices::chosen_once-returns-in-None : goal.choices::chosen_once-returns-in-None
 choices::chosen_once-returns-in-None t c =
-    let env = c.args.env in
+    let env = c.args.env.now in
     let m = means (code_in env c.args.body.now) in
     let kept = c.loop-number.invariant.0 in (
       kept,
@@ -222,14 +222,14 @@ choices::chosen_once-returns-in-None t c =
 
 pub choices::value_for_member-returns-in_ok-value_with-in-Some : goal.choices::value_for_member-returns-in_ok-value_with-in-Some
 choices::value_for_member-returns-in_ok-value_with-in-Some t c =
-    let env = c.args.env in
+    let env = c.args.env.now in
     let m = means (code_in env c.args.body.now) in
     let at = one_choice (map tree_of c.args.list.now) c.args.number ∙ ap (option_map (λ (x : Tree). x ∷ [])) (sym c.member_of.ensures ∙ ap (option_map (λ (v : Bor Value). tree_of v.now)) c.in-Some.is) in
     value_here m (bound_in env) (present_in env) (next_in env) _ (tree_of c.in-Some.value.now ∷ []) (tree_of c.in_ok-value_with-in-Some.field-0) at c.in_ok-value_with-in-Some.ensures
 
 pub choices::value_for_member-returns-in-None : goal.choices::value_for_member-returns-in-None
 choices::value_for_member-returns-in-None t c =
-    let env = c.args.env in
+    let env = c.args.env.now in
     let m = means (code_in env c.args.body.now) in
     let at = one_choice (map tree_of c.args.list.now) c.args.number ∙ ap (option_map (λ (x : Tree). x ∷ [])) (sym c.member_of.ensures ∙ ap (option_map (λ (v : Bor Value). tree_of v.now)) c.in-None.is) in
     ap (λ (o : Option (List Tree)). value_at m (bound_in env) (present_in env) (next_in env) o) at
@@ -237,52 +237,52 @@ choices::value_for_member-returns-in-None t c =
 -- ---- logic
 pub logic::all_are_true-loop-part-preserved : goal.logic::all_are_true-loop-part-preserved
 logic::all_are_true-loop-part-preserved t c p =
-    let env = c.args.env in
+    let env = c.args.env.now in
     c.loop-part.invariant p
     ∙ parts_more (scope_in env) (bound_in env) (present_in env) (next_in env) p c.args.parts.now c.loop-part.part-index c.part-item.result c.part-item.is c.loop-part-test.true c.in_ok-truth.field-0 c.in_ok-truth.ensures c.if-not-branch.false
 
 pub logic::all_are_true-returns-then-not-branch : goal.logic::all_are_true-returns-then-not-branch
 logic::all_are_true-returns-then-not-branch t c p =
-    let env = c.args.env in
+    let env = c.args.env.now in
     ap as_tree (c.loop-part.invariant p
     ∙ parts_stop (scope_in env) (bound_in env) (present_in env) (next_in env) p c.args.parts.now c.loop-part.part-index c.part-item.result c.part-item.is c.loop-part-test.true c.in_ok-truth.field-0 c.in_ok-truth.ensures c.if-not-branch.true)
 
 pub logic::all_are_true-returns : goal.logic::all_are_true-returns
 logic::all_are_true-returns t c p =
-    let env = c.args.env in
+    let env = c.args.env.now in
     ap as_tree (c.loop-part.invariant p ∙ parts_end (scope_in env) (bound_in env) (present_in env) (next_in env) p c.args.parts.now c.loop-part.part-index c.loop-part-test.false)
 
 pub logic::some_is_true-loop-part-preserved : goal.logic::some_is_true-loop-part-preserved
 logic::some_is_true-loop-part-preserved t c p =
-    let env = c.args.env in
+    let env = c.args.env.now in
     c.loop-part.invariant p
     ∙ some_parts_more (scope_in env) (bound_in env) (present_in env) (next_in env) p c.args.parts.now c.loop-part.part-index c.part-item.result c.part-item.is c.loop-part-test.true c.in_ok-truth.field-0 c.in_ok-truth.ensures c.if-branch.false
 
 pub logic::some_is_true-returns-then-branch : goal.logic::some_is_true-returns-then-branch
 logic::some_is_true-returns-then-branch t c p =
-    let env = c.args.env in
+    let env = c.args.env.now in
     ap as_tree (c.loop-part.invariant p
     ∙ some_parts_stop (scope_in env) (bound_in env) (present_in env) (next_in env) p c.args.parts.now c.loop-part.part-index c.part-item.result c.part-item.is c.loop-part-test.true c.in_ok-truth.field-0 c.in_ok-truth.ensures c.if-branch.true)
 
 pub logic::some_is_true-returns : goal.logic::some_is_true-returns
 logic::some_is_true-returns t c p =
-    let env = c.args.env in
+    let env = c.args.env.now in
     ap as_tree (c.loop-part.invariant p ∙ some_parts_end (scope_in env) (bound_in env) (present_in env) (next_in env) p c.args.parts.now c.loop-part.part-index c.loop-part-test.false)
 
 pub logic::truth_of_list-returns-in-Conjunction : goal.logic::truth_of_list-returns-in-Conjunction
 logic::truth_of_list-returns-in-Conjunction t c p =
-    let env = c.args.env in
+    let env = c.args.env.now in
     same_answer truth c.all_are_true.result _ _ (ap (λ (f : ListForm). value_in env (list_expr f p (exprs_of_codes (scope_in env) c.args.parts.now))) c.in-Conjunction.is) (c.all_are_true.ensures p)
 
 pub logic::truth_of_list-returns-in-Disjunction : goal.logic::truth_of_list-returns-in-Disjunction
 logic::truth_of_list-returns-in-Disjunction t c p =
-    let env = c.args.env in
+    let env = c.args.env.now in
     same_answer truth c.some_is_true.result _ _ (ap (λ (f : ListForm). value_in env (list_expr f p (exprs_of_codes (scope_in env) c.args.parts.now))) c.in-Disjunction.is) (c.some_is_true.ensures p)
 
 -- ---- the part that a CASE takes
 pub lists::taken_part-loop-arm-preserved : goal.lists::taken_part-loop-arm-preserved
 lists::taken_part-loop-arm-preserved t c p =
-    let env = c.args.env in
+    let env = c.args.env.now in
     let b = bound_in env in let s = present_in env in let q = next_in env in (
       (c.loop-arm.invariant p).0
           ∙ arm_passed (scope_in env) b s q p (λ (m : Meaning). m.value b s q) c.args.parts.now c.loop-arm.arm c.index-parts-arm.result c.index-parts-arm.is (omega (arith, c.loop-arm-test.true)) c.in_ok-truth.field-0 c.in_ok-truth.ensures c.if-branch.false,
@@ -292,21 +292,21 @@ lists::taken_part-loop-arm-preserved t c p =
 
 pub lists::taken_part-returns-then-branch-clause-value : goal.lists::taken_part-returns-then-branch-clause-value
 lists::taken_part-returns-then-branch-clause-value t c p d =
-    let env = c.args.env in
+    let env = c.args.env.now in
     let b = bound_in env in let s = present_in env in let q = next_in env in
     (c.loop-arm.invariant p).0
     ∙ arm_taken (scope_in env) b s q p (λ (m : Meaning). m.value b s q) c.args.parts.now c.loop-arm.arm c.index-parts-arm.result c.index-parts-arm.is (omega (arith, c.loop-arm-test.true)) c.in_ok-truth.field-0 c.in_ok-truth.ensures d c.if-branch.true
 
 pub lists::taken_part-returns-then-branch-clause-members : goal.lists::taken_part-returns-then-branch-clause-members
 lists::taken_part-returns-then-branch-clause-members t c p d v =
-    let env = c.args.env in
+    let env = c.args.env.now in
     let b = bound_in env in let s = present_in env in let q = next_in env in
     (c.loop-arm.invariant p).1 v
     ∙ arm_taken (scope_in env) b s q p (λ (m : Meaning). m.has v b s q) c.args.parts.now c.loop-arm.arm c.index-parts-arm.result c.index-parts-arm.is (omega (arith, c.loop-arm-test.true)) c.in_ok-truth.field-0 c.in_ok-truth.ensures d c.if-branch.true
 
 pub lists::taken_part-returns-then-arms-parts-clause-value : goal.lists::taken_part-returns-then-arms-parts-clause-value
 lists::taken_part-returns-then-arms-parts-clause-value t c p d =
-    let env = c.args.env in
+    let env = c.args.env.now in
     let b = bound_in env in let s = present_in env in let q = next_in env in
     let codes = c.args.parts.now in
     let n : 2 * c.loop-arm.arm ≡ 2 * (length codes / 2) = omega (arith, c.loop-arm-test.false, c.loop-arm.auto.arm-end) in
@@ -316,7 +316,7 @@ lists::taken_part-returns-then-arms-parts-clause-value t c p d =
 
 pub lists::taken_part-returns-then-arms-parts-clause-members : goal.lists::taken_part-returns-then-arms-parts-clause-members
 lists::taken_part-returns-then-arms-parts-clause-members t c p d v =
-    let env = c.args.env in
+    let env = c.args.env.now in
     let b = bound_in env in let s = present_in env in let q = next_in env in
     let codes = c.args.parts.now in
     let n : 2 * c.loop-arm.arm ≡ 2 * (length codes / 2) = omega (arith, c.loop-arm-test.false, c.loop-arm.auto.arm-end) in
@@ -326,7 +326,7 @@ lists::taken_part-returns-then-arms-parts-clause-members t c p d v =
 
 pub lists::value_of_list-returns-in_ok-index-in-Cases : goal.lists::value_of_list-returns-in_ok-index-in-Cases
 lists::value_of_list-returns-in_ok-index-in-Cases t c =
-    let env = c.args.env in
+    let env = c.args.env.now in
     let p = c.args.place.now in
     let e = ap (λ (f : ListForm). value_in env (list_expr f p (exprs_of_codes (scope_in env) c.args.parts.now))) c.in-Cases.is
     ∙ c.in_ok-index-in-Cases.ensures.value p c.index-parts-index.result
@@ -335,7 +335,7 @@ lists::value_of_list-returns-in_ok-index-in-Cases t c =
 
 pub logic::truth_of_list-returns-in_ok-index-in-Cases : goal.logic::truth_of_list-returns-in_ok-index-in-Cases
 logic::truth_of_list-returns-in_ok-index-in-Cases t c p =
-    let env = c.args.env in
+    let env = c.args.env.now in
     let e = ap (λ (f : ListForm). value_in env (list_expr f p (exprs_of_codes (scope_in env) c.args.parts.now))) c.in-Cases.is
     ∙ c.in_ok-index-in-Cases.ensures.value p c.index-parts-index.result
     ∙ ap (λ (k : Code). value_in env (code_in env k)) (sym c.index-parts-index.is) in
@@ -343,7 +343,7 @@ logic::truth_of_list-returns-in_ok-index-in-Cases t c p =
 
 pub asked::has_in_list-returns-in_ok-index-in-Cases : goal.asked::has_in_list-returns-in_ok-index-in-Cases
 asked::has_in_list-returns-in_ok-index-in-Cases t c =
-    let env = c.args.env in
+    let env = c.args.env.now in
     let p = c.args.place.now in
     let v = tree_of c.args.member.now in
     let e = ap (λ (f : ListForm). has_in env v (list_expr f p (exprs_of_codes (scope_in env) c.args.parts.now))) c.in-Cases.is
@@ -354,17 +354,17 @@ asked::has_in_list-returns-in_ok-index-in-Cases t c =
 -- ---- sets that are tested or iterated over
 pub asked::has_in_list-returns-in-Product : goal.asked::has_in_list-returns-in-Product
 asked::has_in_list-returns-in-Product t c =
-    let env = c.args.env in
+    let env = c.args.env.now in
     same_answer (λ (x : Bool). x) c.is_tuple_of.result _ _ (ap (λ (f : ListForm). has_in env (tree_of c.args.member.now) (list_expr f c.args.place.now (exprs_of_codes (scope_in env) c.args.parts.now))) c.in-Product.is) (c.is_tuple_of.ensures c.args.place.now)
 
 pub fields::has_in_fields-returns-in-Records : goal.fields::has_in_fields-returns-in-Records
 fields::has_in_fields-returns-in-Records t c p =
-    let env = c.args.env in
+    let env = c.args.env.now in
     same_answer (λ (x : Bool). x) c.is_record_of.result _ _ (ap (λ (f : FieldForm). has_in env (tree_of c.args.member.now) (field_expr f p (fields_of_codes (scope_in env) c.args.fields.now))) c.in-Records.is) (c.is_record_of.ensures p)
 
 pub asked::is_function_into-returns-then-has_domain : goal.asked::is_function_into-returns-then-has_domain
 asked::is_function_into-returns-then-has_domain t c p =
-    let env = c.args.env in
+    let env = c.args.env.now in
     let e = function_into p (means (code_in env c.args.domain.now)) (means (code_in env c.args.range.now)) (bound_in env) (present_in env) (next_in env) (tree_of c.args.member.now)
     c.in-Some.function.now (map tree_of c.values.result.now) (tree_of_evaluated c.in_ok-set-in-Some.set) (tree_of c.value-in-Some.result.now) (map tree_of c.in_ok-arguments-in-Some.arguments.now) c.has_domain.result
     (sym (ap (option_map (λ (f : Bor (List (Tree × Tree))). f.now)) c.in-Some.is) ∙ c.if_function.ensures)
@@ -373,7 +373,7 @@ asked::is_function_into-returns-then-has_domain t c p =
 
 pub asked::is_tuple_of-returns-then-items-parts : goal.asked::is_tuple_of-returns-then-items-parts
 asked::is_tuple_of-returns-then-items-parts t c p =
-    let env = c.args.env in
+    let env = c.args.env.now in
     let vs = map tree_of c.in-Some.items.now in
     let ms = mean_all (exprs_of_codes (scope_in env) c.args.parts.now) in
     let e = tuple_long ms vs (items (tree_of c.args.member.now)) (sym c.sequence_items.ensures ∙ ap (option_map (λ (us : Bor (List Value)). map tree_of us.now)) c.in-Some.is) (bound_in env) (present_in env) (next_in env) (same_number c.in-Some.items.now (scope_in env) c.args.parts.now (omega (arith, c.if-items-parts.true))) in
@@ -381,7 +381,7 @@ asked::is_tuple_of-returns-then-items-parts t c p =
 
 pub asked::is_tuple_of-returns-else-items-parts : goal.asked::is_tuple_of-returns-else-items-parts
 asked::is_tuple_of-returns-else-items-parts t c p =
-    let env = c.args.env in
+    let env = c.args.env.now in
     let vs = map tree_of c.in-Some.items.now in
     let ms = mean_all (exprs_of_codes (scope_in env) c.args.parts.now) in
     tuple_other ms vs (items (tree_of c.args.member.now)) (sym c.sequence_items.ensures ∙ ap (option_map (λ (us : Bor (List Value)). map tree_of us.now)) c.in-Some.is) (bound_in env) (present_in env) (next_in env)
@@ -389,6 +389,6 @@ asked::is_tuple_of-returns-else-items-parts t c p =
 
 pub elements_of_two-returns-in_ok-right-in-Operator : goal.elements_of_two-returns-in_ok-right-in-Operator
 elements_of_two-returns-in_ok-right-in-Operator t c =
-    let env = c.args.env in
+    let env = c.args.env.now in
     same_answer elements_of c.operator_elements.result _ _ (ap (λ (f : TwoForm). elements c.args.place.now (means (two_expr f c.args.at.now (code_in env c.args.left.now) (code_in env c.args.right.now))) (bound_in env) (present_in env) (next_in env)) c.in-Operator.is)
     (c.operator_elements.ensures (code_in env c.args.left.now) (code_in env c.args.right.now) (bound_in env) (present_in env) (next_in env) (search rules) (search rules))

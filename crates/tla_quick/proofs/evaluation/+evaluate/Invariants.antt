@@ -302,3 +302,13 @@ abbrev pub invariant-fields::fields_have-loop-field : goal.invariant-fields::fie
 invariant-fields::fields_have-loop-field l =
     all_hold (field_has l.function (bound_in l.env) (present_in l.env) (next_in l.env)) (mean_fields (fields_of_codes (scope_in l.env) l.fields))
     ≡ all_hold (field_has l.function (bound_in l.env) (present_in l.env) (next_in l.env)) (mean_fields (fields_of_codes (scope_in l.env) (drop l.field-index l.fields)))
+
+-- ---- numbers
+abbrev pub decreases-numbers::number : goal.decreases-numbers::number
+decreases-numbers::number l = 2 ^ 66 * size-Code l.code.now + 4
+
+abbrev pub decreases-numbers::number_of_two : goal.decreases-numbers::number_of_two
+decreases-numbers::number_of_two l = 2 ^ 66 * max (size-Code l.left.now) (size-Code l.right.now) + 19
+
+abbrev pub decreases-numbers::order_of_two : goal.decreases-numbers::order_of_two
+decreases-numbers::order_of_two l = 2 ^ 66 * max (size-Code l.left.now) (size-Code l.right.now) + 19
