@@ -3,8 +3,9 @@
 use crate::chosen::{Chosen, Path};
 use std::alloc::Global;
 use tla_core::{Core, Fault, FaultCode, Opening, Place, memory};
-use tla_eval::{Partial, eval, member, opened, set_members};
-use tla_reading::{plain_part_of, read};
+use tla_eval::{Partial, eval, member, opened};
+use tla_quick::Expression;
+use tla_reading::{members_of, plain_part_of, read, value_of};
 use tla_value::{State, Value};
 
 /// The present state, the values of the bound names, and the number of evaluations left.
@@ -101,7 +102,9 @@ impl<'a> Walk<'a> {
         if !self.spend() {
             return Ok(None);
         }
-        unless_faulty(eval(self.alloc, core, self.path.values(), self.now, next))
+        let expression = self.expression(core)?;
+        let bound = self.path.values();
+        unless_faulty(value_of(self.alloc, &expression, bound, self.now, next))
     }
 
     /// The truth value of an expression.
@@ -122,8 +125,9 @@ impl<'a> Walk<'a> {
         if !self.spend() {
             return Ok(None);
         }
+        let expression = self.expression(set)?;
         let bound = self.path.values();
-        unless_faulty(member(self.alloc, value, set, bound, self.now, next))
+        unless_faulty(member_of(self.alloc, value, &expression, bound, self.now, next))
     }
 
     /// The elements of a set.
@@ -135,8 +139,10 @@ impl<'a> Walk<'a> {
         if !self.spend() {
             return Ok(None);
         }
+        let expression = self.expression(set)?;
         let bound = self.path.values();
-        unless_faulty(set_members(self.alloc, set.place(), set, bound, self.now, next))
+        let place = set.place();
+        unless_faulty(members_of(self.alloc, place, &expression, bound, self.now, next))
     }
 
     /// The states that a part of an action leads to from a state.
@@ -181,6 +187,11 @@ impl<'a> Walk<'a> {
         }
     }
 
+    /// An expression, prepared for evaluation: what it names several times is evaluated once.
+    fn expression<'c>(&self, core: &'c Core) -> Result<Expression<'c>, Fault> {
+        Ok(Expression::new(self.alloc, core, self.path.len())?)
+    }
+
     /// Counts an evaluation; false if none is left.
     fn spend(&mut self) -> bool {
         if self.budget == 0 {
@@ -188,6 +199,21 @@ impl<'a> Walk<'a> {
         }
         self.budget -= 1;
         true
+    }
+}
+
+/// Whether a value is a member of the set that an expression denotes, or the first fault.
+fn member_of(
+    alloc: Global,
+    value: &Value,
+    set: &Expression<'_>,
+    bound: &mut Vec<Value>,
+    now: Option<&State>,
+    next: &Partial,
+) -> Result<bool, Fault> {
+    match (&*set).has(alloc, value, bound.as_slice(), now, next) {
+        Some(holds) => Ok(holds),
+        None => member(alloc, value, set.core(), bound, now, next),
     }
 }
 
