@@ -12,7 +12,7 @@ use Rattle.tla_config.specs.Statements.{Item, Value, Replaces}
 use Rattle.tla_names.specs.Scope.{signature}
 use Rattle.tla_items.specs.Items.{replaced_names}
 use Rattle.tla_items.specs.References.{at_word, names_in, names_definition, names_sets}
-use Rattle.tla_items.specs.Open.{meets, with_touched, touched, with_operators, with_operators_of, still_open}
+use Rattle.tla_items.specs.Private.Open.{meets, with_touched, touched, with_operators, with_operators_of, still_open}
 use Rattle.tla_scopes.specs.Meanings.{Argument, Scope, Meaning, standard, with_name, variable, parameter, operator}
 use Rattle.tla_scopes.specs.Expand.{expand, definition_in}
 use Rattle.tla_defs.specs.Given.{fixed, with_items}

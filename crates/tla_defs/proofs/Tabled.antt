@@ -9,7 +9,7 @@ use Rattle.tla_tree.specs.Tree.{Tree}
 use Rattle.tla_tree.specs.Units.{UnitTree}
 use Rattle.tla_config.specs.Names.{Name}
 use Rattle.tla_config.specs.Statements.{Item}
-use Rattle.tla_items.specs.Items.{stands_for}
+use Rattle.tla_items.specs.Private.Resolved.{stands_for}
 use Rattle.tla_names.proofs.Inserted.{same, named, same_name, lookup_after}
 use Rattle.tla_scopes.specs.Maybe.{◌>>=◌}
 use Rattle.tla_names.specs.Maybe.{or_else}

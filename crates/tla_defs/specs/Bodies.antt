@@ -6,7 +6,7 @@ use Rattle.tla_tree.specs.Units.{UnitTree, Operator, Defines, Local, Assume}
 use Rattle.tla_config.specs.Names.{Name}
 use Rattle.tla_config.specs.Statements.{Item}
 use Rattle.tla_scopes.specs.Maybe.{◌>>=◌}
-use Rattle.tla_items.specs.Items.{stands_for}
+use Rattle.tla_items.specs.Private.Resolved.{stands_for}
 
 -- the definitions of names
 abbrev pub Bodies : Type 0

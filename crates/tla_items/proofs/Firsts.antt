@@ -37,13 +37,13 @@ or_there (Some i) r h = refl
 or_there None r h = let z : ⊥ = cc in absurd z
 
 module _ (es : List (Bor Name × Bor c.Item)) (is : List (Bor c.Item)) (k : Bor Name) (i : Bor c.Item) (e : k.now ≡ (replaced_name (item_of i)).word) (t : AreFirst es is) where
-  behind : (x : Name) → item_for (map item_of (is ++ i ∷ [])) x ≡ or_else (item_for (map item_of is) x) (if_named x k.now (item_of i))
-  behind x =
+  item_after : (x : Name) → item_for (map item_of (is ++ i ∷ [])) x ≡ or_else (item_for (map item_of is) x) (if_named x k.now (item_of i))
+  item_after x =
       ap (λ js. item_for js x) (map-append item_of is (i ∷ [])) ∙ item_for_last (map item_of is) (item_of i) x ∙ ap (λ y. or_else (item_for (map item_of is) x) (if_named x y (item_of i))) (sym e)
 
   -- a name that has an item
   pub first_known : is_some (lookup (named k.now) es) ≡ true → AreFirst es (is ++ i ∷ [])
-  first_known h = record { each = λ x. at x (bytes_eq x k.now) refl ∙ sym (behind x) }
+  first_known h = record { each = λ x. at x (bytes_eq x k.now) refl ∙ sym (item_after x) }
     where
       at : (x : Name) (b : Bool) → bytes_eq x k.now ≡ b → option_map item_of (lookup (named x) es) ≡ or_else (item_for (map item_of is) x) (if_named x k.now (item_of i))
       at x true m =
@@ -53,7 +53,7 @@ module _ (es : List (Bor Name × Bor c.Item)) (is : List (Bor c.Item)) (k : Bor 
 
   -- a name that has none yet
   pub first_new : lookup (named k.now) es ≡ None → AreFirst (insert_entry same es k i) (is ++ i ∷ [])
-  first_new h = record { each = λ x. ap (λ o. option_map item_of o) (lookup_after es k i x) ∙ at x (bytes_eq x k.now) refl ∙ sym (behind x) }
+  first_new h = record { each = λ x. ap (λ o. option_map item_of o) (lookup_after es k i x) ∙ at x (bytes_eq x k.now) refl ∙ sym (item_after x) }
     where
       at : (x : Name) (b : Bool) → bytes_eq x k.now ≡ b → option_map item_of (if bytes_eq x k.now then Some i else lookup (named x) es) ≡ or_else (item_for (map item_of is) x) (if_named x k.now (item_of i))
       at x true m =

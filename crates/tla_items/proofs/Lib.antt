@@ -3,3 +3,5 @@ pub mod Tables
 pub mod Settling
 pub mod Firsts
 pub mod Dues
+pub mod Resolved
+pub mod Opened

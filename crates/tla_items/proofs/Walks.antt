@@ -1,8 +1,9 @@
 -- The names that a name leads to.
-use Rattle.std.proofs.Common.{◌≡◌, ◌<◌, refl, ap, sym, ◌∙◌, inl, inr, arith, Bool, true, false, List, [], ◌∷◌, ◌++◌, length, map, get_or}
+use Rattle.std.proofs.Common.{◌≡◌, ◌<◌, ℕ, refl, ap, sym, subst, ◌∙◌, inl, inr, Bool, true, false, List, [], ◌∷◌, ◌++◌, length, map, drop, get_or}
 use Rattle.std.specs.Prelude.{◌||◌, ◌⊎◌}
 use Rattle.std.specs.Borrow.{Bor}
 use Rattle.std.specs.Str.{bytes_eq}
+use Rattle.std.proofs.lemmas.List.{drop_more}
 use Rattle.std.proofs.lemmas.List.Folds.{list_any-append}
 use Rattle.std.proofs.lemmas.Slice.Eq.{bytes_eq-Decides}
 use Rattle.tla_config.specs.Names.{Name, is_among}
@@ -105,19 +106,19 @@ module _ (ls : List Reference) where
           let k2 : is_among z next ≡ true = ap (λ xs. is_among z xs) (e ∙ ap (λ x. next_names ls x) (sym (one y name h))) ∙ k in
           among_second z (passed ++ name ∷ []) (waiting ++ next) (among_second z waiting next k2)
 
-      behind : (x : Name) → AreLed ls x (passed ++ (waiting ++ name ∷ [])) → (y : Name) → (is_among y waiting ≡ true) ⊎ (is_among y next ≡ true) → (zs : List Name) × LeadsBy ls x zs y
-      behind x l y (inl h) = l y (widened name passed waiting y (among_second y passed waiting h))
-      behind x l y (inr h) =
+      from_waiting : (x : Name) → AreLed ls x (passed ++ (waiting ++ name ∷ [])) → (y : Name) → (is_among y waiting ≡ true) ⊎ (is_among y next ≡ true) → (zs : List Name) × LeadsBy ls x zs y
+      from_waiting x l y (inl h) = l y (widened name passed waiting y (among_second y passed waiting h))
+      from_waiting x l y (inr h) =
           let way = l name (among_second name passed (waiting ++ name ∷ []) (among_second name waiting (name ∷ []) (first (bytes_eq name name) false ((bytes_eq-Decides name name).1 refl)))) in
           (way.0 ++ name ∷ [], led_more x name y way.0 way.1 (ap (λ xs. is_among y xs) (sym e) ∙ h))
 
-      before : (x : Name) → AreLed ls x (passed ++ (waiting ++ name ∷ [])) → (y : Name) → (is_among y passed ≡ true) ⊎ (is_among y (name ∷ []) ≡ true) → (zs : List Name) × LeadsBy ls x zs y
-      before x l y (inl h) = l y (among_first y passed (waiting ++ name ∷ []) h)
-      before x l y (inr h) = l y (among_second y passed (waiting ++ name ∷ []) (among_second y waiting (name ∷ []) h))
+      from_passed : (x : Name) → AreLed ls x (passed ++ (waiting ++ name ∷ [])) → (y : Name) → (is_among y passed ≡ true) ⊎ (is_among y (name ∷ []) ≡ true) → (zs : List Name) × LeadsBy ls x zs y
+      from_passed x l y (inl h) = l y (among_first y passed (waiting ++ name ∷ []) h)
+      from_passed x l y (inr h) = l y (among_second y passed (waiting ++ name ∷ []) (among_second y waiting (name ∷ []) h))
 
       from : (x : Name) → AreLed ls x (passed ++ (waiting ++ name ∷ [])) → (y : Name) → (is_among y (passed ++ name ∷ []) ≡ true) ⊎ (is_among y (waiting ++ next) ≡ true) → (zs : List Name) × LeadsBy ls x zs y
-      from x l y (inl h) = before x l y (among_append y passed (name ∷ []) h)
-      from x l y (inr h) = behind x l y (among_append y waiting next h)
+      from x l y (inl h) = from_passed x l y (among_append y passed (name ∷ []) h)
+      from x l y (inr h) = from_waiting x l y (among_append y waiting next h)
 
   pub goes_to : (name : Name) (passed waiting passed_after waiting_after : List Name) → passed_after ≡ passed ++ name ∷ [] → waiting_after ≡ waiting ++ next_names ls name
       → GoesOn ls name passed waiting passed_after waiting_after
@@ -167,8 +168,7 @@ module _ (ks ls : List Reference) (same : (x : Name) → next_names ks x ≡ nex
   first_same (i ∷ is) w (inl h) = inl (h.0, circular_same ks ls same w.word h.1)
   first_same (i ∷ is) w (inr h) = inr (λ c. h.0 (back (replaced_name i).word c), first_same is w h.1)
 
--- the first item of those that are left
-pub first_here : (ls : List Reference) (left : List (Bor c.Item)) (i : Bor c.Item) (w : Written) → 0 < length left → i ≡ get_or left 0 i → replaced_name (item_of i) ≡ w → IsCircular ls w.word
-    → IsFirstCycle ls (map item_of left) w
-first_here ls [] i w h g e k = absurd (omega arith)
-first_here ls (x ∷ left) i w h g e k = inl (ap (λ y. replaced_name (item_of y)) (sym g) ∙ e, k)
+-- the item at an index, where those before it are on no cycle
+pub first_at : (ls : List Reference) (is : List (Bor c.Item)) (k : ℕ) (i : Bor c.Item) (w : Written) → k < length is → i ≡ get_or is k i → replaced_name (item_of i) ≡ w → IsCircular ls w.word
+    → IsFirstCycle ls (map item_of (drop k is)) w
+first_at ls is k i w h g e p = subst (λ js. IsFirstCycle ls (map item_of js) w) (sym (drop_more is k i h)) (inl (ap (λ y. replaced_name (item_of y)) (sym g) ∙ e, p))

@@ -1,5 +1,5 @@
 -- The items of CONSTANT, and the names that they are for (book, chapter 14).
-use Rattle.std.specs.Prelude.{ℕ, zero, suc, nat_eq, length, List, [], ◌∷◌, ◌++◌, Option, Some, None, is_some, if◌then◌else◌, map}
+use Rattle.std.specs.Prelude.{◌≡◌, ℕ, nat_eq, List, [], ◌∷◌, ◌++◌, Option, Some, None, is_some, if◌then◌else◌, map}
 use Rattle.std.specs.List.{flat_map}
 use Rattle.std.specs.Str.{bytes_eq}
 use Rattle.tla_tree.specs.declared.word.Written.{Written}
@@ -24,19 +24,11 @@ abbrev pub item_for : List Item → Name → Option Item
 item_for [] x = None
 item_for (i ∷ is) x = if bytes_eq x (replaced_name i).word then Some i else item_for is x
 
-abbrev pub led_by : (Name → Option Name) → Name → Option Item → Option Name
-led_by ρ x None = Some x
-led_by ρ x (Some (Value w v)) = None
-led_by ρ x (Some (Replaces w op)) = ρ op.word
-
--- the name that a name leads to by at most n items, one after the other; none if one of them is a value
-abbrev pub led : List Item → ℕ → Name → Option Name
-led is zero x = Some x
-led is (suc n) x = led_by (led is n) x (item_for is x)
-
--- The name that a name means: Op, where it has an item `c <- Op`.
-abbrev pub stands_for : List Item → Name → Option Name
-stands_for is x = led is (length is) x
+-- A name resolves to another by items `c <- Op`: where it has no item, to itself, and where it has one, to what Op
+-- resolves to. A name that leads to a value or round a cycle resolves to none.
+pub data ResolvesTo (is : List Item) : Name → Name → Type 0 where
+  unreplaced : (x : Name) → item_for is x ≡ None → ResolvesTo is x x
+  replaced : (x y : Name) (w op : Written) → item_for is x ≡ Some (Replaces w op) → ResolvesTo is op.word y → ResolvesTo is x y
 
 -- what a unit defines; an assumption's name is defined too
 abbrev pub defined : UnitTree → Scope

@@ -1,6 +1,7 @@
 pub mod Items
 pub mod References
-pub mod Open
 pub mod Cycles
+pub mod Open
+pub mod Laws
 pub mod Refusal
 pub mod Private

@@ -4,12 +4,11 @@ use Rattle.std.specs.Prelude.{◌≡◌, true, List, [], ◌∷◌, ◌++◌, So
 use Rattle.std.specs.Str.{bytes_eq}
 use Rattle.tla_tree.specs.Tree.{Tree, Trees, none, more, Binders, unbound, bound, Arms, no_arms, arm, Other, no_other, other, Definition, DefinesOperator, DefinesFunction, Definitions, undefined, defined, Fields, no_fields, field, Key, AtIndex, AtField, Keys, no_keys, key, Updates, no_updates, update}
 use Rattle.tla_tree.specs.Tree as t
-use Rattle.tla_tree.specs.Units.{UnitTree, Extends, Variables, Operator, Defines, Local, Constants, Assume}
-use Rattle.tla_config.specs.Names.{Name, words, is_among}
+use Rattle.tla_tree.specs.Units.{UnitTree, Operator, Defines, Local, Assume}
+use Rattle.tla_config.specs.Names.{Name, is_among}
 use Rattle.tla_config.specs.Statements.{Item, Value, Replaces}
-use Rattle.tla_names.specs.Scope.{Scope, arity, plain, extended, signature}
-use Rattle.tla_names.specs.Constants.{constants}
-use Rattle.tla_items.specs.Items as items
+use Rattle.tla_names.specs.Scope.{Scope, arity, signature}
+use Rattle.tla_names.specs.WellScopedModule.{signatures_of}
 
 -- the names that are used in an expression, those that it binds among them
 abbrev mutual
@@ -84,13 +83,6 @@ abbrev mutual
   names_definitions undefined = []
   names_definitions (defined d ds) = names_definition d ++ names_definitions ds
 
--- what a unit brings in
-abbrev pub brings : UnitTree → Scope
-brings (Extends at ws) = extended (words ws)
-brings (Variables at ws) = plain (words ws)
-brings (Constants at ds) = constants ds
-brings u = items.defined u
-
 abbrev pub known_among : Scope → List Name → List Name
 known_among σ [] = []
 known_among σ (x ∷ xs) = if is_some (arity σ x) then x ∷ known_among σ xs else known_among σ xs
@@ -113,7 +105,7 @@ unit_references σ _ = []
 
 abbrev pub units_references : Scope → List UnitTree → List Reference
 units_references σ [] = []
-units_references σ (u ∷ us) = unit_references σ u ++ units_references (σ ++ brings u) us
+units_references σ (u ∷ us) = unit_references σ u ++ units_references (σ ++ signatures_of u) us
 
 -- a name with an item `c <- Op` leads to Op, one with a value to none
 abbrev pub item_reference : Item → Reference

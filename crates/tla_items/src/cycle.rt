@@ -104,12 +104,10 @@ fn is_circular<'a>(
 fn all_among<'a>(names: &Names<'a>, others: &NameSet<'a>) -> bool
     ensures { result ≡ all_among names.now others.now }
 {
-    let mut left = names.words();
-    while let [first, rest @ ..] = left {
-        if !others.contains(first.as_bytes()) {
+    for word in names.words() {
+        if !others.contains(word.as_bytes()) {
             return false;
         }
-        left = rest;
     }
     true
 }
@@ -209,14 +207,12 @@ fn each_straight<'a>(
     ensures err { IfErr result (λ e. e.code ≢ Memory → IsOfCycle references.now items.now e) }
 {
     let mut settled = NameSet::new(alloc);
-    let mut left = items.list();
-    while let [first, rest @ ..] = left {
-        let name = replaced_name(first);
+    for item in items.list() {
+        let name = replaced_name(item);
         if leads_back(alloc, references, &mut settled, &name.word)? {
             let code = DefsCode::CircularReplacement;
             return Err(refusal_of(alloc, code, Source::Configuration, Mention::of(name)));
         }
-        left = rest;
     }
     Ok(())
 }

@@ -1,6 +1,6 @@
 //! The items of CONSTANT.
 
-ghost use Rattle.std.specs.Prelude.{◌≡◌, ◌≢◌, ◌++◌, ◌∷◌, [], None, Some, OnOk, IfOk, IfErr, List, ℕ, map, option_map};
+ghost use Rattle.std.specs.Prelude.{◌≡◌, ◌≢◌, ◌++◌, ◌∷◌, [], None, Some, OnOk, IfOk, IfErr, IfSome, IfNone, List, ℕ, map, option_map};
 ghost use Rattle.std.specs.Borrow.{Bor};
 ghost use Rattle.tla_config.specs.declared.error.DefsCode.TheVariants.{Memory};
 ghost use Rattle.tla_config.specs.Statements as config;
@@ -9,13 +9,14 @@ ghost use Rattle.tla_tree.specs.UnitsView.{unit_view};
 ghost use Rattle.tla_value.specs.Tree as value;
 ghost use Rattle.tla_items.specs.Private.Firsts.{AreFirst, AreFirst-prop};
 ghost use Rattle.tla_items.specs.Items as spec;
-ghost use Rattle.tla_items.specs.References as references;
+ghost use Rattle.tla_items.specs.Private.Resolved as resolved;
 ghost use Rattle.tla_names.specs.Scope as scopes;
 ghost use Rattle.tla_names.specs.Mentions.{item_of};
 ghost use Rattle.tla_names.specs.Constants as constants;
 ghost use Rattle.tla_names.specs.Refusal.{Says, refusal_of};
 ghost use Rattle.tla_items.specs.Refusal.{items_refused};
 ghost use Rattle.tla_names.specs.Scope.{signature};
+ghost use Rattle.tla_names.specs.WellScopedModule.{signatures_of};
 ghost use Rattle.tla_tree.specs.View.{definition_view};
 
 use indexmap::IndexMap;
@@ -74,10 +75,8 @@ impl<'a> Items<'a> {
         ensures ok { OnOk result (self.new ≡ self.old ++ map item_view items.entry.now) }
         ensures err { IfErr result (λ e. e.code ≡ Memory) }
     {
-        let mut left = items;
-        while let [first, rest @ ..] = left {
-            self.push(first)?;
-            left = rest;
+        for item in items {
+            self.push(item)?;
         }
         Ok(())
     }
@@ -109,10 +108,8 @@ impl<'a> Items<'a> {
             list: Vec::new(alloc),
             firsts: IndexMap::new(alloc),
         };
-        let mut left = statements;
-        while let [first, rest @ ..] = left {
-            items.push_of(first)?;
-            left = rest;
+        for statement in statements {
+            items.push_of(statement)?;
         }
         Ok(items)
     }
@@ -134,22 +131,25 @@ impl<'a> Items<'a> {
         }
     }
 
-    /// The name that a name means: Op, if it has an item `c <- Op`. None if it has a value.
+    /// What a name resolves to by the items `c <- Op`, if any. A name that leads to a value or round a cycle resolves to
+    /// none.
     pub fn stands_for<'n>(&'n self, name: &'n [u8]) -> Option<&'n [u8]>
-        ensures { option_map (λ (w : Bor (List ℕ)). w.now) result
-            ≡ spec.stands_for self.entry.now name.entry.now }
+        ensures some { IfSome result (λ w.
+            spec.ResolvesTo self.entry.now name.entry.now w.now) }
+        ensures none { IfNone result
+            ((y : List ℕ) → spec.ResolvesTo self.entry.now name.entry.now y → ⊥) }
+        ensures value { option_map (λ (w : Bor (List ℕ)). w.now) result
+            ≡ resolved.stands_for self.entry.now name.entry.now }
     {
         let mut word = name;
-        let mut left = self.list.len();
-        while left > 0 {
+        for _turn in 0..=self.list.len() {
             match self.first(word) {
                 None => return Some(word),
                 Some(Item::Value(_, _)) => return None,
                 Some(Item::Replaces(_, operator)) => word = operator.word.as_bytes(),
             }
-            left -= 1;
         }
-        Some(word)
+        None
     }
 
     /// The names that have an item. The only error is that memory ran out.
@@ -158,10 +158,8 @@ impl<'a> Items<'a> {
         ensures err { IfErr result (λ e. e.code ≡ Memory) }
     {
         let mut names = Names::new(alloc);
-        let mut left = self.list.as_slice();
-        while let [first, rest @ ..] = left {
-            names.push(&replaced_name(first).word)?;
-            left = rest;
+        for item in self.list.as_slice() {
+            names.push(&replaced_name(item).word)?;
         }
         Ok(names)
     }
@@ -226,26 +224,10 @@ pub fn definitions_of<'a>(alloc: Global, units: &'a [Unit]) -> Result<Scope<'a>,
     ensures err { IfErr result (λ e. e.code ≡ Memory) }
 {
     let mut scope = Scope::new(alloc);
-    let mut left = units;
-    while let [first, rest @ ..] = left {
-        push_defined(&mut scope, first)?;
-        left = rest;
+    for unit in units {
+        push_defined(&mut scope, unit)?;
     }
     Ok(scope)
-}
-
-/// Adds the names that a unit brings into scope: by EXTENDS, a declaration or a definition.
-pub(crate) fn push_brought<'a>(scope: &mut Scope<'a>, unit: &'a Unit) -> Result<(), DefsError>
-    ensures ok { OnOk result
-        (scope.new ≡ scope.old ++ references.brings (unit_view unit.entry.now)) }
-    ensures err { IfErr result (λ e. e.code ≡ Memory) }
-{
-    match unit {
-        Unit::Extends(_, modules) => scope.extend_all(modules),
-        Unit::Variables(_, names) => scope.push_all(names),
-        Unit::Constants(_, declarations) => scope.push_declared(declarations),
-        _ => push_defined(scope, unit),
-    }
 }
 
 /// Adds the names of a unit that may have an item.
@@ -271,6 +253,17 @@ fn push_nameable<'a>(scope: &mut Scope<'a>, unit: &'a Unit) -> Result<(), DefsEr
     }
 }
 
+/// Adds the names that a unit brings into scope: by EXTENDS, a declaration or a definition.
+pub(crate) fn push_brought<'a>(scope: &mut Scope<'a>, unit: &'a Unit) -> Result<(), DefsError>
+    ensures ok { OnOk result (scope.new ≡ scope.old ++ signatures_of (unit_view unit.entry.now)) }
+    ensures err { IfErr result (λ e. e.code ≡ Memory) }
+{
+    match unit {
+        Unit::Variables(_, names) => scope.push_all(names),
+        _ => push_nameable(scope, unit),
+    }
+}
+
 /// The names that may replace another one: constants, definitions and operators of modules. The only error is that
 /// memory ran out.
 fn nameable_of<'a>(alloc: Global, units: &'a [Unit]) -> Result<Scope<'a>, DefsError>
@@ -278,10 +271,8 @@ fn nameable_of<'a>(alloc: Global, units: &'a [Unit]) -> Result<Scope<'a>, DefsEr
     ensures err { IfErr result (λ e. e.code ≡ Memory) }
 {
     let mut scope = Scope::new(alloc);
-    let mut left = units;
-    while let [first, rest @ ..] = left {
-        push_nameable(&mut scope, first)?;
-        left = rest;
+    for unit in units {
+        push_nameable(&mut scope, unit)?;
     }
     Ok(scope)
 }
@@ -292,10 +283,8 @@ fn replaceable_of<'a>(alloc: Global, units: &'a [Unit]) -> Result<Scope<'a>, Def
     ensures err { IfErr result (λ e. e.code ≡ Memory) }
 {
     let mut scope = Scope::new(alloc);
-    let mut left = units;
-    while let [first, rest @ ..] = left {
-        push_replaceable(&mut scope, first)?;
-        left = rest;
+    for unit in units {
+        push_replaceable(&mut scope, unit)?;
     }
     Ok(scope)
 }
@@ -388,11 +377,9 @@ fn each_named(
         (spec.items_misused values.now operators.now [] items.now) }
 {
     let mut before = Names::new(alloc);
-    let mut left = items.list();
-    while let [first, rest @ ..] = left {
-        item_named(alloc, values, operators, &before, first)?;
-        before.push(&replaced_name(first).word)?;
-        left = rest;
+    for item in items.list() {
+        item_named(alloc, values, operators, &before, item)?;
+        before.push(&replaced_name(item).word)?;
     }
     Ok(())
 }

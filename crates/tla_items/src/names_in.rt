@@ -138,10 +138,8 @@ fn each<'a>(names: &mut Names<'a>, items: &'a [Expr]) -> Result<(), DefsError>
         (names.new ≡ names.old ++ references.names_each (trees (map view items.entry.now))) }
     ensures err { IfErr result (λ e. e.code ≡ Memory) }
 {
-    let mut left = items;
-    while let [first, rest @ ..] = left {
-        expression(names, first)?;
-        left = rest;
+    for item in items {
+        expression(names, item)?;
     }
     Ok(())
 }
@@ -154,10 +152,8 @@ fn each_set<'a>(names: &mut Names<'a>, items: &'a [Binder]) -> Result<(), DefsEr
         ≡ names.old ++ references.names_sets (binders (map group_view items.entry.now))) }
     ensures err { IfErr result (λ e. e.code ≡ Memory) }
 {
-    let mut left = items;
-    while let [first, rest @ ..] = left {
-        expression(names, &first.set)?;
-        left = rest;
+    for group in items {
+        expression(names, &group.set)?;
     }
     Ok(())
 }
@@ -170,11 +166,9 @@ fn each_arm<'a>(names: &mut Names<'a>, items: &'a [Arm]) -> Result<(), DefsError
         ≡ names.old ++ references.names_arms (arms (map choice_view items.entry.now))) }
     ensures err { IfErr result (λ e. e.code ≡ Memory) }
 {
-    let mut left = items;
-    while let [first, rest @ ..] = left {
-        expression(names, &first.guard)?;
-        expression(names, &first.value)?;
-        left = rest;
+    for arm in items {
+        expression(names, &arm.guard)?;
+        expression(names, &arm.value)?;
     }
     Ok(())
 }
@@ -187,10 +181,8 @@ fn each_field<'a>(names: &mut Names<'a>, items: &'a [Field]) -> Result<(), DefsE
         ≡ names.old ++ references.names_fields (fields (map field_view items.entry.now))) }
     ensures err { IfErr result (λ e. e.code ≡ Memory) }
 {
-    let mut left = items;
-    while let [first, rest @ ..] = left {
-        expression(names, &first.value)?;
-        left = rest;
+    for field in items {
+        expression(names, &field.value)?;
     }
     Ok(())
 }
@@ -203,11 +195,9 @@ fn each_update<'a>(names: &mut Names<'a>, items: &'a [Update]) -> Result<(), Def
         ≡ names.old ++ references.names_updates (updates (map update_view items.entry.now))) }
     ensures err { IfErr result (λ e. e.code ≡ Memory) }
 {
-    let mut left = items;
-    while let [first, rest @ ..] = left {
-        path(names, &first.path)?;
-        expression(names, &first.value)?;
-        left = rest;
+    for update in items {
+        path(names, &update.path)?;
+        expression(names, &update.value)?;
     }
     Ok(())
 }
@@ -232,10 +222,8 @@ fn path<'a>(names: &mut Names<'a>, items: &'a [Key]) -> Result<(), DefsError>
         (names.new ≡ names.old ++ references.names_keys (keys (map key_view items.entry.now))) }
     ensures err { IfErr result (λ e. e.code ≡ Memory) }
 {
-    let mut left = items;
-    while let [first, rest @ ..] = left {
-        one_key(names, first)?;
-        left = rest;
+    for key in items {
+        one_key(names, key)?;
     }
     Ok(())
 }
@@ -267,10 +255,8 @@ fn each_definition<'a>(names: &mut Names<'a>, items: &'a [Definition]) -> Result
         (definitions (map definition_view items.entry.now))) }
     ensures err { IfErr result (λ e. e.code ≡ Memory) }
 {
-    let mut left = items;
-    while let [first, rest @ ..] = left {
-        definition(names, first)?;
-        left = rest;
+    for item in items {
+        definition(names, item)?;
     }
     Ok(())
 }

@@ -3,7 +3,7 @@
 ghost use Rattle.std.specs.Prelude.{◌≡◌, OnOk, IfOk, IfErr, map};
 ghost use Rattle.tla_config.specs.declared.error.DefsCode.TheVariants.{Memory};
 ghost use Rattle.tla_tree.specs.UnitsView.{unit_view};
-ghost use Rattle.tla_items.specs.Open as spec;
+ghost use Rattle.tla_items.specs.Private.Open as spec;
 
 use crate::items::{Items, name_of};
 use crate::names_in::{definition, expression};
@@ -16,12 +16,10 @@ use tla_tree::{Unit, Word};
 fn meets(names: &Names<'_>, others: &Names<'_>) -> bool
     ensures { result ≡ spec.meets names.now others.now }
 {
-    let mut left = names.words();
-    while let [first, rest @ ..] = left {
-        if others.contains(first.as_bytes()) {
+    for word in names.words() {
+        if others.contains(word.as_bytes()) {
             return true;
         }
-        left = rest;
     }
     others.contains(b"@".as_slice())
 }
@@ -70,10 +68,8 @@ fn touched<'a>(alloc: Global, from: Names<'a>, units: &'a [Unit]) -> Result<Name
     ensures err { IfErr result (λ e. e.code ≡ Memory) }
 {
     let mut names = from;
-    let mut left = units;
-    while let [first, rest @ ..] = left {
-        touch_unit(alloc, &mut names, first)?;
-        left = rest;
+    for unit in units {
+        touch_unit(alloc, &mut names, unit)?;
     }
     Ok(names)
 }
@@ -84,12 +80,10 @@ pub fn with_operators<'a>(alloc: Global, items: &Items<'a>) -> Result<Names<'a>,
     ensures err { IfErr result (λ e. e.code ≡ Memory) }
 {
     let mut names = Names::new(alloc);
-    let mut left = items.list();
-    while let [first, rest @ ..] = left {
-        if let Item::Replaces(name, _) = first {
+    for item in items.list() {
+        if let Item::Replaces(name, _) = item {
             names.push(&name.word)?;
         }
-        left = rest;
     }
     Ok(names)
 }
@@ -104,14 +98,12 @@ fn with_operators_of<'a>(
     ensures err { IfErr result (λ e. e.code ≡ Memory) }
 {
     let mut names = Names::new(alloc);
-    let mut left = items.list();
-    while let [first, rest @ ..] = left {
-        if let Item::Replaces(name, operator) = first {
+    for item in items.list() {
+        if let Item::Replaces(name, operator) = item {
             if operators.contains(operator.word.as_bytes()) {
                 names.push(&name.word)?;
             }
         }
-        left = rest;
     }
     Ok(names)
 }

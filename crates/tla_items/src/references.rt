@@ -128,10 +128,8 @@ impl<'a> References<'a> {
             x) }
         ensures err { IfErr result (λ e. e.code ≡ Memory) }
     {
-        let mut left = items.list();
-        while let [first, rest @ ..] = left {
-            self.add_item(alloc, first)?;
-            left = rest;
+        for item in items.list() {
+            self.add_item(alloc, item)?;
         }
         Ok(())
     }
@@ -147,11 +145,9 @@ impl<'a> References<'a> {
         ensures err { IfErr result (λ e. e.code ≡ Memory) }
     {
         let mut scope = Scope::new(alloc);
-        let mut left = units;
-        while let [first, rest @ ..] = left {
-            self.add_unit(alloc, at, &scope, first)?;
-            push_brought(&mut scope, first)?;
-            left = rest;
+        for unit in units {
+            self.add_unit(alloc, at, &scope, unit)?;
+            push_brought(&mut scope, unit)?;
         }
         Ok(())
     }
@@ -192,12 +188,10 @@ fn known_among<'a>(
 {
     let mut known = Names::new(alloc);
     known.push(at)?;
-    let mut left = names.words();
-    while let [first, rest @ ..] = left {
-        if scope.knows(first.as_bytes()) {
-            known.push(first)?;
+    for word in names.words() {
+        if scope.knows(word.as_bytes()) {
+            known.push(word)?;
         }
-        left = rest;
     }
     Ok(known)
 }

@@ -48,10 +48,8 @@ impl<'a> Waiting<'a> {
         ensures ok { OnOk result (self.new ≡ self.old ++ names.now) }
         ensures err { IfErr result (λ e. e.code ≡ Memory) }
     {
-        let mut left = names.words();
-        while let [first, rest @ ..] = left {
-            self.push(first)?;
-            left = rest;
+        for word in names.words() {
+            self.push(word)?;
         }
         Ok(())
     }

@@ -25,11 +25,9 @@ pub(crate) fn declare<'a>(
     ensures first { Says Source.Module result
         (spec.misused_constants scope.old (map declared declarations.now)) }
 {
-    let mut left = declarations;
-    while let [first, rest @ ..] = left {
-        new_name(alloc, scope, &first.name)?;
-        scope.push(first.name.word.as_bytes(), first.arity)?;
-        left = rest;
+    for declaration in declarations {
+        new_name(alloc, scope, &declaration.name)?;
+        scope.push(declaration.name.word.as_bytes(), declaration.arity)?;
     }
     Ok(())
 }
@@ -39,12 +37,10 @@ fn first_unvalued<'a>(replaced: &Names<'_>, declarations: &'a [Declaration]) -> 
     ensures { option_map written_of result
         ≡ spec.first_unvalued replaced.now (map declared declarations.entry.now) }
 {
-    let mut left = declarations;
-    while let [first, rest @ ..] = left {
-        if !replaced.contains(first.name.word.as_bytes()) {
-            return Some(Mention::of(&first.name));
+    for declaration in declarations {
+        if !replaced.contains(declaration.name.word.as_bytes()) {
+            return Some(Mention::of(&declaration.name));
         }
-        left = rest;
     }
     None
 }
@@ -65,12 +61,10 @@ pub fn unvalued<'a>(replaced: &Names<'_>, units: &'a [Unit]) -> Option<Mention<'
     ensures { option_map written_of result
         ≡ spec.unvalued replaced.now (map unit_view units.entry.now) }
 {
-    let mut left = units;
-    while let [first, rest @ ..] = left {
-        if let Some(found) = declared_unvalued(replaced, first) {
+    for unit in units {
+        if let Some(found) = declared_unvalued(replaced, unit) {
             return Some(found);
         }
-        left = rest;
     }
     None
 }

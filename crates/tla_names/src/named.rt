@@ -5,48 +5,19 @@ ghost use Rattle.tla_config.specs.View.{statement_view};
 ghost use Rattle.tla_names.specs.Named as naming;
 ghost use Rattle.tla_names.specs.Refusal as refused;
 
-use crate::mention::Mention;
-use crate::refusal::refusal_of;
+use crate::resolve::used;
 use crate::scope::Scope;
 use std::alloc::Global;
-use tla_config::{DefsCode, DefsError, Source, Statement};
+use tla_config::{DefsError, Source, Statement};
 use tla_tree::Written;
-
-/// The name of a definition without parameters.
-fn named(alloc: Global, definitions: &Scope<'_>, name: &Written) -> Result<(), DefsError>
-    ensures { refused.Says Source.Configuration result (naming.misnamed definitions.now name.now) }
-{
-    match definitions.arity(name.word.as_bytes()) {
-        None => Err(refusal_of(
-            alloc,
-            DefsCode::UnknownName,
-            Source::Configuration,
-            Mention::of(name),
-        )),
-        Some(arity) => {
-            if arity == 0 {
-                Ok(())
-            } else {
-                Err(refusal_of(
-                    alloc,
-                    DefsCode::ArgumentCount,
-                    Source::Configuration,
-                    Mention::of(name),
-                ))
-            }
-        }
-    }
-}
 
 /// Names of definitions without parameters.
 fn each_named(alloc: Global, definitions: &Scope<'_>, names: &[Written]) -> Result<(), DefsError>
     ensures { refused.Says Source.Configuration result
         (naming.each_misnamed definitions.now names.now) }
 {
-    let mut left = names;
-    while let [first, rest @ ..] = left {
-        named(alloc, definitions, first)?;
-        left = rest;
+    for name in names {
+        used(alloc, Source::Configuration, definitions, name, 0)?;
     }
     Ok(())
 }
@@ -63,7 +34,7 @@ fn statement_named(
 {
     match statement {
         Statement::Init(_, name) | Statement::Next(_, name) | Statement::Specification(_, name) =>
-            named(alloc, definitions, name),
+            used(alloc, Source::Configuration, definitions, name, 0),
         Statement::Invariants(_, names) | Statement::Constraints(_, names) => each_named(
             alloc,
             definitions,
@@ -82,10 +53,8 @@ pub fn statements_named(
     ensures { refused.Says Source.Configuration result
         (naming.names_misused definitions.now (map statement_view statements.now)) }
 {
-    let mut left = statements;
-    while let [first, rest @ ..] = left {
-        statement_named(alloc, definitions, first)?;
-        left = rest;
+    for statement in statements {
+        statement_named(alloc, definitions, statement)?;
     }
     Ok(())
 }

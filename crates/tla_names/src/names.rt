@@ -63,11 +63,9 @@ impl<'a> Names<'a> {
         ensures err { IfErr result (λ e. e.code ≡ Memory) }
     {
         let mut texts = Vec::new(alloc);
-        let mut left = self.words.as_slice();
-        while let [first, rest @ ..] = left {
-            let text = text_of(alloc, first.as_bytes())?;
+        for word in self.words.as_slice() {
+            let text = text_of(alloc, word.as_bytes())?;
             texts.push(text)?;
-            left = rest;
         }
         Ok(texts)
     }

@@ -70,26 +70,22 @@ fn prefix_word(operator: Prefix) -> &'static [u8]
 }
 
 /// Checks the use of a name with `count` arguments.
-fn used(alloc: Global, scope: &Scope<'_>, name: &Written, count: usize) -> Result<(), DefsError>
-    ensures { Says Source.Module result (known.used scope.now name.now count) }
+pub(crate) fn used(
+    alloc: Global,
+    source: Source,
+    scope: &Scope<'_>,
+    name: &Written,
+    count: usize,
+) -> Result<(), DefsError>
+    ensures { Says source result (known.used scope.now name.now count) }
 {
     match scope.arity(name.word.as_bytes()) {
-        None => Err(refusal_of(
-            alloc,
-            DefsCode::UnknownName,
-            Source::Module,
-            Mention::of(name),
-        )),
+        None => Err(refusal_of(alloc, DefsCode::UnknownName, source, Mention::of(name))),
         Some(arity) => {
             if count == arity {
                 Ok(())
             } else {
-                Err(refusal_of(
-                    alloc,
-                    DefsCode::ArgumentCount,
-                    Source::Module,
-                    Mention::of(name),
-                ))
+                Err(refusal_of(alloc, DefsCode::ArgumentCount, source, Mention::of(name)))
             }
         }
     }
@@ -120,19 +116,17 @@ fn bring<'a>(
     ensures ok { OnOk result (new.new ≡ new.old ++ words names.now) }
     ensures first { Says Source.Module result (known.brought scope.now new.old names.now) }
 {
-    let mut left = names;
-    while let [first, rest @ ..] = left {
-        let name = first.word.as_bytes();
+    for written in names {
+        let name = written.word.as_bytes();
         if scope.knows(name) || new.contains(name) {
             return Err(refusal_of(
                 alloc,
                 DefsCode::DefinedTwice,
                 Source::Module,
-                Mention::of(first),
+                Mention::of(written),
             ));
         }
-        new.push(&first.word)?;
-        left = rest;
+        new.push(&written.word)?;
     }
     Ok(())
 }
@@ -188,7 +182,7 @@ pub(crate) fn expression<'a>(
         (known.misused modules.now scope.old (view tree.now)) }
 {
     match tree {
-        Expr::Name(name) => used(alloc, scope, name, 0),
+        Expr::Name(name) => used(alloc, Source::Module, scope, name, 0),
         Expr::Number(_, _) | Expr::Text(_, _) | Expr::Constant(_, _) | Expr::At(_) => Ok(()),
         Expr::Paren(_, inner) | Expr::Prime(_, inner) | Expr::Field(_, inner, _) => {
             expression(alloc, modules, scope, inner)
@@ -251,7 +245,7 @@ fn call<'a>(
         (or_else (known.used scope.old name.now (length arguments.now))
         (known.misused_each modules.now scope.old (trees (map view arguments.now)))) }
 {
-    used(alloc, scope, name, arguments.len())?;
+    used(alloc, Source::Module, scope, name, arguments.len())?;
     each(alloc, modules, scope, arguments)
 }
 
@@ -380,12 +374,10 @@ fn each_field<'a>(
         (known.misused_fields modules.now scope.old [] (fields (map field_view items.now))) }
 {
     let mut before = Names::new(alloc);
-    let mut left = items;
-    while let [first, rest @ ..] = left {
-        once(alloc, &before, &first.name)?;
-        expression(alloc, modules, scope, &first.value)?;
-        before.push(&first.name.word)?;
-        left = rest;
+    for field in items {
+        once(alloc, &before, &field.name)?;
+        expression(alloc, modules, scope, &field.value)?;
+        before.push(&field.name.word)?;
     }
     Ok(())
 }
@@ -420,10 +412,8 @@ fn each_update<'a>(
     ensures first { Says Source.Module result
         (known.misused_updates modules.now scope.old (updates (map update_view items.now))) }
 {
-    let mut left = items;
-    while let [first, rest @ ..] = left {
-        one_update(alloc, modules, scope, first)?;
-        left = rest;
+    for update in items {
+        one_update(alloc, modules, scope, update)?;
     }
     Ok(())
 }
@@ -475,10 +465,8 @@ fn path<'a>(
     ensures first { Says Source.Module result
         (known.misused_keys modules.now scope.old (keys (map key_view items.now))) }
 {
-    let mut left = items;
-    while let [first, rest @ ..] = left {
-        one_key(alloc, modules, scope, first)?;
-        left = rest;
+    for key in items {
+        one_key(alloc, modules, scope, key)?;
     }
     Ok(())
 }
@@ -565,10 +553,8 @@ fn each<'a>(
     ensures first { Says Source.Module result
         (known.misused_each modules.now scope.old (trees (map view items.now))) }
 {
-    let mut left = items;
-    while let [first, rest @ ..] = left {
-        expression(alloc, modules, scope, first)?;
-        left = rest;
+    for item in items {
+        expression(alloc, modules, scope, item)?;
     }
     Ok(())
 }
@@ -585,11 +571,9 @@ fn each_arm<'a>(
     ensures first { Says Source.Module result
         (known.misused_arms modules.now scope.old (arms (map choice_view items.now))) }
 {
-    let mut left = items;
-    while let [first, rest @ ..] = left {
-        expression(alloc, modules, scope, &first.guard)?;
-        expression(alloc, modules, scope, &first.value)?;
-        left = rest;
+    for arm in items {
+        expression(alloc, modules, scope, &arm.guard)?;
+        expression(alloc, modules, scope, &arm.value)?;
     }
     Ok(())
 }
@@ -610,13 +594,11 @@ fn bind<'a>(
         (known.misused_sets modules.now scope.old [] (binders (map group_view groups.now))) }
 {
     let mut new = Names::new(alloc);
-    let mut left = groups;
-    while let [first, rest @ ..] = left {
-        bring(alloc, scope, &mut new, first.pattern.names())?;
-        expression(alloc, modules, scope, &first.set)?;
-        left = rest;
+    for group in groups {
+        bring(alloc, scope, &mut new, group.pattern.names())?;
+        expression(alloc, modules, scope, &group.set)?;
     }
-    scope.push_names(&new)
+    scope.push_bound(groups)
 }
 
 /// The definition of a function.
@@ -689,10 +671,8 @@ fn define<'a>(
         (known.misused_definitions modules.now scope.old
         (definitions (map definition_view items.now))) }
 {
-    let mut left = items;
-    while let [first, rest @ ..] = left {
-        definition(alloc, modules, scope, first)?;
-        left = rest;
+    for item in items {
+        definition(alloc, modules, scope, item)?;
     }
     Ok(())
 }

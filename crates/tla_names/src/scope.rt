@@ -11,7 +11,6 @@ ghost use Rattle.tla_names.specs.Private.Latest.{IsTable, KeepBefore};
 ghost use Rattle.tla_names.specs.Private.LatestProps.{IsTable-prop, KeepBefore-prop};
 ghost use Rattle.tla_names.specs.Scope.{arity, plain, bound_names, module_names, extended};
 
-use crate::names::Names;
 use indexmap::IndexMap;
 use std::alloc::Global;
 use std::marker::Model;
@@ -98,10 +97,8 @@ impl<'a> Scope<'a> {
         ensures ok { OnOk result (self.new ≡ self.old ++ plain (words names.entry.now)) }
         ensures err { IfErr result (λ e. e.code ≡ Memory) }
     {
-        let mut left = names;
-        while let [first, rest @ ..] = left {
-            self.push(first.word.as_bytes(), 0)?;
-            left = rest;
+        for name in names {
+            self.push(name.word.as_bytes(), 0)?;
         }
         Ok(())
     }
@@ -113,23 +110,8 @@ impl<'a> Scope<'a> {
             ≡ self.old ++ plain (bound_names (binders (map group_view groups.entry.now)))) }
         ensures err { IfErr result (λ e. e.code ≡ Memory) }
     {
-        let mut left = groups;
-        while let [first, rest @ ..] = left {
-            self.push_all(first.pattern.names())?;
-            left = rest;
-        }
-        Ok(())
-    }
-
-    /// Adds names, without parameters. The only error is that memory ran out.
-    pub fn push_names(&mut self, names: &Names<'a>) -> Result<(), DefsError>
-        ensures ok { OnOk result (self.new ≡ self.old ++ plain names.now) }
-        ensures err { IfErr result (λ e. e.code ≡ Memory) }
-    {
-        let mut left = names.words();
-        while let [first, rest @ ..] = left {
-            self.push(first.as_bytes(), 0)?;
-            left = rest;
+        for group in groups {
+            self.push_all(group.pattern.names())?;
         }
         Ok(())
     }
@@ -140,10 +122,8 @@ impl<'a> Scope<'a> {
             (self.new ≡ self.old ++ constants (map declared declarations.entry.now)) }
         ensures err { IfErr result (λ e. e.code ≡ Memory) }
     {
-        let mut left = declarations;
-        while let [first, rest @ ..] = left {
-            self.push(first.name.word.as_bytes(), first.arity)?;
-            left = rest;
+        for declaration in declarations {
+            self.push(declaration.name.word.as_bytes(), declaration.arity)?;
         }
         Ok(())
     }
@@ -220,10 +200,8 @@ impl<'a> Scope<'a> {
         ensures ok { OnOk result (self.new ≡ self.old ++ extended (words modules.now)) }
         ensures err { IfErr result (λ e. e.code ≡ Memory) }
     {
-        let mut left = modules;
-        while let [first, rest @ ..] = left {
-            self.extend(first.word.as_bytes())?;
-            left = rest;
+        for module in modules {
+            self.extend(module.word.as_bytes())?;
         }
         Ok(())
     }

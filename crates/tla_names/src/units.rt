@@ -29,10 +29,8 @@ fn push_all<'a>(names: &mut Names<'a>, written: &'a [Written]) -> Result<(), Def
     ensures ok { OnOk result (names.new ≡ names.old ++ words written.now) }
     ensures err { IfErr result (λ e. e.code ≡ Memory) }
 {
-    let mut left = written;
-    while let [first, rest @ ..] = left {
-        names.push(&first.word)?;
-        left = rest;
+    for name in written {
+        names.push(&name.word)?;
     }
     Ok(())
 }
@@ -92,10 +90,8 @@ pub fn variables<'a>(alloc: Global, units: &'a [Unit]) -> Result<Names<'a>, Defs
         scope: Scope::new(alloc),
         variables: Names::new(alloc),
     };
-    let mut left = units;
-    while let [first, rest @ ..] = left {
-        bring_unit(alloc, &mut brought, first)?;
-        left = rest;
+    for unit in units {
+        bring_unit(alloc, &mut brought, unit)?;
     }
     Ok(brought.variables)
 }

@@ -7,7 +7,7 @@ use Rattle.tla_tree.specs.declared.tree.Expr.{Expr}
 use Rattle.tla_tree.specs.Tree.{Tree}
 use Rattle.tla_config.specs.Names.{Name}
 use Rattle.tla_config.specs.Statements.{Item}
-use Rattle.tla_items.specs.Items.{stands_for}
+use Rattle.tla_items.specs.Private.Resolved.{stands_for}
 use Rattle.tla_scopes.specs.Maybe.{◌>>=◌}
 use Rattle.tla_defs.specs.declared.table.Body.{Body}
 use Rattle.tla_defs.specs.declared.table.Class.{Class}

@@ -1,4 +1,4 @@
-use Rattle.std.proofs.Common.{◌≡◌, ◌≤◌, ◌+◌, ◌*◌, max, ◌++◌, length, map}
+use Rattle.std.proofs.Common.{◌≡◌, ◌+◌, ◌*◌, max, ◌++◌, map, drop}
 use Rattle.tla_tree.specs.Tree.{trees, binders, arms, definitions, fields, keys, updates}
 use Rattle.tla_tree.specs.View.{view, group_view, choice_view, definition_view, field_view, key_view, update_view}
 use Rattle.tla_items.specs.References.{names_each, names_sets, names_arms, names_fields, names_updates, names_keys, names_definitions}
@@ -12,68 +12,26 @@ use Rattle.tla_tree.specs.declared.tree.Key.{size-Key}
 use Rattle.tla_tree.specs.declared.tree.Definition.{size-Definition}
 use Rattle.tla_items.proofs.names_in.+names_in.Given as goal
 
-abbrev pub invariant-each-loop-left : goal.invariant-each-loop-left
-invariant-each-loop-left l = record {
-  shallow : most size-Expr l.left ≤ most size-Expr l.items;
-  same : l.fn.names ++ names_each (trees (map view l.items)) ≡ l.names ++ names_each (trees (map view l.left));
-}
+abbrev pub invariant-each-loop-item : goal.invariant-each-loop-item
+invariant-each-loop-item l = l.fn.names ++ names_each (trees (map view l.items)) ≡ l.names ++ names_each (trees (map view (drop l.item-index l.items)))
 
-abbrev pub decreases-each-loop-left : goal.decreases-each-loop-left
-decreases-each-loop-left l = length l.left
+abbrev pub invariant-each_set-loop-group : goal.invariant-each_set-loop-group
+invariant-each_set-loop-group l = l.fn.names ++ names_sets (binders (map group_view l.items)) ≡ l.names ++ names_sets (binders (map group_view (drop l.group-index l.items)))
 
-abbrev pub invariant-each_set-loop-left : goal.invariant-each_set-loop-left
-invariant-each_set-loop-left l = record {
-  shallow : most size-Binder l.left ≤ most size-Binder l.items;
-  same : l.fn.names ++ names_sets (binders (map group_view l.items)) ≡ l.names ++ names_sets (binders (map group_view l.left));
-}
+abbrev pub invariant-each_arm-loop-arm : goal.invariant-each_arm-loop-arm
+invariant-each_arm-loop-arm l = l.fn.names ++ names_arms (arms (map choice_view l.items)) ≡ l.names ++ names_arms (arms (map choice_view (drop l.arm-index l.items)))
 
-abbrev pub decreases-each_set-loop-left : goal.decreases-each_set-loop-left
-decreases-each_set-loop-left l = length l.left
+abbrev pub invariant-each_field-loop-field : goal.invariant-each_field-loop-field
+invariant-each_field-loop-field l = l.fn.names ++ names_fields (fields (map field_view l.items)) ≡ l.names ++ names_fields (fields (map field_view (drop l.field-index l.items)))
 
-abbrev pub invariant-each_arm-loop-left : goal.invariant-each_arm-loop-left
-invariant-each_arm-loop-left l = record {
-  shallow : most size-Arm l.left ≤ most size-Arm l.items;
-  same : l.fn.names ++ names_arms (arms (map choice_view l.items)) ≡ l.names ++ names_arms (arms (map choice_view l.left));
-}
+abbrev pub invariant-each_update-loop-update : goal.invariant-each_update-loop-update
+invariant-each_update-loop-update l = l.fn.names ++ names_updates (updates (map update_view l.items)) ≡ l.names ++ names_updates (updates (map update_view (drop l.update-index l.items)))
 
-abbrev pub decreases-each_arm-loop-left : goal.decreases-each_arm-loop-left
-decreases-each_arm-loop-left l = length l.left
+abbrev pub invariant-path-loop-key : goal.invariant-path-loop-key
+invariant-path-loop-key l = l.fn.names ++ names_keys (keys (map key_view l.items)) ≡ l.names ++ names_keys (keys (map key_view (drop l.key-index l.items)))
 
-abbrev pub invariant-each_field-loop-left : goal.invariant-each_field-loop-left
-invariant-each_field-loop-left l = record {
-  shallow : most size-Field l.left ≤ most size-Field l.items;
-  same : l.fn.names ++ names_fields (fields (map field_view l.items)) ≡ l.names ++ names_fields (fields (map field_view l.left));
-}
-
-abbrev pub decreases-each_field-loop-left : goal.decreases-each_field-loop-left
-decreases-each_field-loop-left l = length l.left
-
-abbrev pub invariant-each_update-loop-left : goal.invariant-each_update-loop-left
-invariant-each_update-loop-left l = record {
-  shallow : most size-Update l.left ≤ most size-Update l.items;
-  same : l.fn.names ++ names_updates (updates (map update_view l.items)) ≡ l.names ++ names_updates (updates (map update_view l.left));
-}
-
-abbrev pub decreases-each_update-loop-left : goal.decreases-each_update-loop-left
-decreases-each_update-loop-left l = length l.left
-
-abbrev pub invariant-path-loop-left : goal.invariant-path-loop-left
-invariant-path-loop-left l = record {
-  shallow : most size-Key l.left ≤ most size-Key l.items;
-  same : l.fn.names ++ names_keys (keys (map key_view l.items)) ≡ l.names ++ names_keys (keys (map key_view l.left));
-}
-
-abbrev pub decreases-path-loop-left : goal.decreases-path-loop-left
-decreases-path-loop-left l = length l.left
-
-abbrev pub invariant-each_definition-loop-left : goal.invariant-each_definition-loop-left
-invariant-each_definition-loop-left l = record {
-  shallow : most size-Definition l.left ≤ most size-Definition l.items;
-  same : l.fn.names ++ names_definitions (definitions (map definition_view l.items)) ≡ l.names ++ names_definitions (definitions (map definition_view l.left));
-}
-
-abbrev pub decreases-each_definition-loop-left : goal.decreases-each_definition-loop-left
-decreases-each_definition-loop-left l = length l.left
+abbrev pub invariant-each_definition-loop-item : goal.invariant-each_definition-loop-item
+invariant-each_definition-loop-item l = l.fn.names ++ names_definitions (definitions (map definition_view l.items)) ≡ l.names ++ names_definitions (definitions (map definition_view (drop l.item-index l.items)))
 
 -- ---- how deep what is left is, and then which function comes before which
 abbrev pub decreases-expression : goal.decreases-expression

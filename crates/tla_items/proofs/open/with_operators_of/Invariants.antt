@@ -1,10 +1,7 @@
-use Rattle.std.proofs.Common.{◌≡◌, ◌++◌, length, map}
-use Rattle.tla_items.specs.Open.{with_operators_of}
+use Rattle.std.proofs.Common.{◌≡◌, ◌++◌, map, drop}
+use Rattle.tla_items.specs.Private.Open.{with_operators_of}
 use Rattle.tla_names.specs.Mentions.{item_of}
 use Rattle.tla_items.proofs.open.with_operators_of.Given as goal
 
-abbrev pub invariant-loop-left : goal.invariant-loop-left
-invariant-loop-left l = with_operators_of l.operators l.items ≡ l.names ++ with_operators_of l.operators (map item_of l.left)
-
-abbrev pub decreases-loop-left : goal.decreases-loop-left
-decreases-loop-left l = length l.left
+abbrev pub invariant-loop-item : goal.invariant-loop-item
+invariant-loop-item l = with_operators_of l.operators l.items ≡ l.names ++ with_operators_of l.operators (map item_of (drop l.item-index l.item-items))

@@ -1,7 +1,7 @@
-use Rattle.std.proofs.Common.{◌≡◌, ◌≤◌, ◌+◌, ◌*◌, max, ◌++◌, [], length, map}
+use Rattle.std.proofs.Common.{◌≡◌, ◌+◌, ◌*◌, max, ◌++◌, [], map, drop}
 use Rattle.tla_tree.specs.Tree.{trees, binders, arms, definitions, fields, keys, updates}
 use Rattle.tla_tree.specs.View.{view, group_view, choice_view, definition_view, field_view, key_view, update_view}
-use Rattle.tla_names.specs.Scope.{bound_names, signatures}
+use Rattle.tla_names.specs.Scope.{signatures}
 use Rattle.tla_names.specs.Known.{misused_each, misused_arms, misused_sets, misused_definitions, misused_fields, misused_keys, misused_updates}
 use denote.Param.Weighed.{most}
 use Rattle.tla_tree.specs.declared.tree.Expr.{size-Expr}
@@ -13,76 +13,47 @@ use Rattle.tla_tree.specs.declared.tree.Update.{size-Update}
 use Rattle.tla_tree.specs.declared.tree.Key.{size-Key}
 use Rattle.tla_names.proofs.resolve.+known.Given as goal
 
-abbrev pub invariant-each-loop-left : goal.invariant-each-loop-left
-invariant-each-loop-left l = record {
-  shallow : most size-Expr l.left ≤ most size-Expr l.items;
+abbrev pub invariant-each-loop-item : goal.invariant-each-loop-item
+invariant-each-loop-item l = record {
   kept : l.scope ≡ l.fn.scope;
-  same : misused_each l.modules l.fn.scope (trees (map view l.items)) ≡ misused_each l.modules l.fn.scope (trees (map view l.left));
+  same : misused_each l.modules l.fn.scope (trees (map view l.items)) ≡ misused_each l.modules l.fn.scope (trees (map view (drop l.item-index l.items)));
 }
 
-abbrev pub decreases-each-loop-left : goal.decreases-each-loop-left
-decreases-each-loop-left l = length l.left
-
-abbrev pub invariant-each_arm-loop-left : goal.invariant-each_arm-loop-left
-invariant-each_arm-loop-left l = record {
-  shallow : most size-Arm l.left ≤ most size-Arm l.items;
+abbrev pub invariant-each_arm-loop-arm : goal.invariant-each_arm-loop-arm
+invariant-each_arm-loop-arm l = record {
   kept : l.scope ≡ l.fn.scope;
-  same : misused_arms l.modules l.fn.scope (arms (map choice_view l.items)) ≡ misused_arms l.modules l.fn.scope (arms (map choice_view l.left));
+  same : misused_arms l.modules l.fn.scope (arms (map choice_view l.items)) ≡ misused_arms l.modules l.fn.scope (arms (map choice_view (drop l.arm-index l.items)));
 }
 
-abbrev pub decreases-each_arm-loop-left : goal.decreases-each_arm-loop-left
-decreases-each_arm-loop-left l = length l.left
-
-abbrev pub invariant-bind-loop-left : goal.invariant-bind-loop-left
-invariant-bind-loop-left l = record {
-  shallow : most size-Binder l.left ≤ most size-Binder l.groups;
+abbrev pub invariant-bind-loop-group : goal.invariant-bind-loop-group
+invariant-bind-loop-group l = record {
   kept : l.scope ≡ l.fn.scope;
-  names : bound_names (binders (map group_view l.groups)) ≡ l.new ++ bound_names (binders (map group_view l.left));
-  same : misused_sets l.modules l.fn.scope [] (binders (map group_view l.groups)) ≡ misused_sets l.modules l.fn.scope l.new (binders (map group_view l.left));
+  same : misused_sets l.modules l.fn.scope [] (binders (map group_view l.groups)) ≡ misused_sets l.modules l.fn.scope l.new (binders (map group_view (drop l.group-index l.groups)));
 }
 
-abbrev pub decreases-bind-loop-left : goal.decreases-bind-loop-left
-decreases-bind-loop-left l = length l.left
-
-abbrev pub invariant-define-loop-left : goal.invariant-define-loop-left
-invariant-define-loop-left l = record {
-  shallow : most size-Definition l.left ≤ most size-Definition l.items;
-  more : l.fn.scope ++ signatures (definitions (map definition_view l.items)) ≡ l.scope ++ signatures (definitions (map definition_view l.left));
-  same : misused_definitions l.modules l.fn.scope (definitions (map definition_view l.items)) ≡ misused_definitions l.modules l.scope (definitions (map definition_view l.left));
+abbrev pub invariant-define-loop-item : goal.invariant-define-loop-item
+invariant-define-loop-item l = record {
+  more : l.fn.scope ++ signatures (definitions (map definition_view l.items)) ≡ l.scope ++ signatures (definitions (map definition_view (drop l.item-index l.items)));
+  same : misused_definitions l.modules l.fn.scope (definitions (map definition_view l.items)) ≡ misused_definitions l.modules l.scope (definitions (map definition_view (drop l.item-index l.items)));
 }
 
-abbrev pub decreases-define-loop-left : goal.decreases-define-loop-left
-decreases-define-loop-left l = length l.left
-
-abbrev pub invariant-each_field-loop-left : goal.invariant-each_field-loop-left
-invariant-each_field-loop-left l = record {
-  shallow : most size-Field l.left ≤ most size-Field l.items;
+abbrev pub invariant-each_field-loop-field : goal.invariant-each_field-loop-field
+invariant-each_field-loop-field l = record {
   kept : l.scope ≡ l.fn.scope;
-  same : misused_fields l.modules l.fn.scope [] (fields (map field_view l.items)) ≡ misused_fields l.modules l.fn.scope l.before (fields (map field_view l.left));
+  same : misused_fields l.modules l.fn.scope [] (fields (map field_view l.items)) ≡ misused_fields l.modules l.fn.scope l.before (fields (map field_view (drop l.field-index l.items)));
 }
 
-abbrev pub decreases-each_field-loop-left : goal.decreases-each_field-loop-left
-decreases-each_field-loop-left l = length l.left
-
-abbrev pub invariant-each_update-loop-left : goal.invariant-each_update-loop-left
-invariant-each_update-loop-left l = record {
-  shallow : most size-Update l.left ≤ most size-Update l.items;
+abbrev pub invariant-each_update-loop-update : goal.invariant-each_update-loop-update
+invariant-each_update-loop-update l = record {
   kept : l.scope ≡ l.fn.scope;
-  same : misused_updates l.modules l.fn.scope (updates (map update_view l.items)) ≡ misused_updates l.modules l.fn.scope (updates (map update_view l.left));
+  same : misused_updates l.modules l.fn.scope (updates (map update_view l.items)) ≡ misused_updates l.modules l.fn.scope (updates (map update_view (drop l.update-index l.items)));
 }
 
-abbrev pub decreases-each_update-loop-left : goal.decreases-each_update-loop-left
-decreases-each_update-loop-left l = length l.left
-
-abbrev pub invariant-path-loop-left : goal.invariant-path-loop-left
-invariant-path-loop-left l = record {
-  shallow : most size-Key l.left ≤ most size-Key l.items;
+abbrev pub invariant-path-loop-key : goal.invariant-path-loop-key
+invariant-path-loop-key l = record {
   kept : l.scope ≡ l.fn.scope;
-  same : misused_keys l.modules l.fn.scope (keys (map key_view l.items)) ≡ misused_keys l.modules l.fn.scope (keys (map key_view l.left));
+  same : misused_keys l.modules l.fn.scope (keys (map key_view l.items)) ≡ misused_keys l.modules l.fn.scope (keys (map key_view (drop l.key-index l.items)));
 }
-
-abbrev pub decreases-path-loop-left : goal.decreases-path-loop-left
-decreases-path-loop-left l = length l.left
 
 -- ---- how deep what is left is, and then which function comes before which
 abbrev pub decreases-expression : goal.decreases-expression

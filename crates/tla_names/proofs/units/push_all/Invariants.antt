@@ -1,9 +1,6 @@
-use Rattle.std.proofs.Common.{◌≡◌, ◌++◌, length}
+use Rattle.std.proofs.Common.{◌≡◌, ◌++◌, drop}
 use Rattle.tla_config.specs.Names.{words}
 use Rattle.tla_names.proofs.units.push_all.Given as goal
 
-abbrev pub invariant-loop-left : goal.invariant-loop-left
-invariant-loop-left l = l.fn.names ++ words l.written ≡ l.names ++ words l.left
-
-abbrev pub decreases-loop-left : goal.decreases-loop-left
-decreases-loop-left l = length l.left
+abbrev pub invariant-loop-name : goal.invariant-loop-name
+invariant-loop-name l = l.fn.names ++ words l.written ≡ l.names ++ words (drop l.name-index l.written)

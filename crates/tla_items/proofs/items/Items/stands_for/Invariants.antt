@@ -1,9 +1,6 @@
-use Rattle.std.proofs.Common.{◌≡◌}
-use Rattle.tla_items.specs.Items.{led, stands_for}
+use Rattle.std.proofs.Common.{◌≡◌, ◌+◌, ◌-◌}
+use Rattle.tla_items.specs.Private.Resolved.{resolved_within, stands_for}
 use Rattle.tla_items.proofs.items.Items.stands_for.Given as goal
 
-abbrev pub invariant-loop-left : goal.invariant-loop-left
-invariant-loop-left l = stands_for l.self l.name ≡ led l.self l.left l.word
-
-abbrev pub decreases-loop-left : goal.decreases-loop-left
-decreases-loop-left l = l.left
+abbrev pub invariant-loop-turn : goal.invariant-loop-turn
+invariant-loop-turn l = stands_for l.self l.name ≡ resolved_within l.self (l._turn-end + 1 - l._turn) l.word
