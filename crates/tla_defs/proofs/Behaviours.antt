@@ -17,7 +17,7 @@ before None = []
 before (Some w) = w ∷ []
 
 -- after an INIT and a NEXT or not, nothing else names a behaviour
-pub record IsOnlyBehind (i n : Option Written) (cs : List Statement) (b : Behaviour) : Type 0 where
+pub record IsOnlyAfter (i n : Option Written) (cs : List Statement) (b : Behaviour) : Type 0 where
   pub init : before i ++ initials_named cs ≡ init_names b
   pub next : before n ++ nexts_named cs ≡ next_names b
   pub specification : specifications_named cs ≡ specification_names b
@@ -48,28 +48,28 @@ alone_only p v (Constraints at ws ∷ cs) b h = let g = alone_only p v cs b h in
 alone_only p v (CheckDeadlock at check ∷ cs) b h = let g = alone_only p v cs b h in record { same = g.same; init = g.init; next = g.next; specification = g.specification }
 alone_only p v (Constants at is ∷ cs) b h = let g = alone_only p v cs b h in record { same = g.same; init = g.init; next = g.next; specification = g.specification }
 
-only_behind : (i n : Option Written) (cs : List Statement) (end : Place) (b : Behaviour) → behaviour cs end i n ≡ Ok b → IsOnlyBehind i n cs b
-only_behind None n [] end b p = absurd (no_ok end b p)
-only_behind (Some i) None [] end b p = absurd (no_ok end b p)
-only_behind (Some i) (Some n) [] end b p =
+only_after : (i n : Option Written) (cs : List Statement) (end : Place) (b : Behaviour) → behaviour cs end i n ≡ Ok b → IsOnlyAfter i n cs b
+only_after None n [] end b p = absurd (no_ok end b p)
+only_after (Some i) None [] end b p = absurd (no_ok end b p)
+only_after (Some i) (Some n) [] end b p =
     let same : Named i n ≡ b = cc in
     rw (sym same) (record { init = refl; next = refl; specification = refl })
-only_behind None n (Init at w ∷ cs) end b p = let h = only_behind (Some w) n cs end b p in record { init = h.init; next = h.next; specification = h.specification }
-only_behind (Some i) n (Init at w ∷ cs) end b p = absurd (no_ok at b p)
-only_behind i None (Next at w ∷ cs) end b p = let h = only_behind i (Some w) cs end b p in record { init = h.init; next = h.next; specification = h.specification }
-only_behind i (Some n) (Next at w ∷ cs) end b p = absurd (no_ok at b p)
-only_behind None None (Specification at w ∷ cs) end b p =
+only_after None n (Init at w ∷ cs) end b p = let h = only_after (Some w) n cs end b p in record { init = h.init; next = h.next; specification = h.specification }
+only_after (Some i) n (Init at w ∷ cs) end b p = absurd (no_ok at b p)
+only_after i None (Next at w ∷ cs) end b p = let h = only_after i (Some w) cs end b p in record { init = h.init; next = h.next; specification = h.specification }
+only_after i (Some n) (Next at w ∷ cs) end b p = absurd (no_ok at b p)
+only_after None None (Specification at w ∷ cs) end b p =
     let h = alone_only at w cs b p in
     rw h.same (record { init = h.init; next = h.next; specification = ap (λ ws. w ∷ ws) h.specification })
-only_behind None (Some n) (Specification at w ∷ cs) end b p = absurd (no_ok at b p)
-only_behind (Some i) n (Specification at w ∷ cs) end b p = absurd (no_ok at b p)
-only_behind i n (Invariants at ws ∷ cs) end b p = let h = only_behind i n cs end b p in record { init = h.init; next = h.next; specification = h.specification }
-only_behind i n (Constraints at ws ∷ cs) end b p = let h = only_behind i n cs end b p in record { init = h.init; next = h.next; specification = h.specification }
-only_behind i n (CheckDeadlock at check ∷ cs) end b p = let h = only_behind i n cs end b p in record { init = h.init; next = h.next; specification = h.specification }
-only_behind i n (Constants at is ∷ cs) end b p = let h = only_behind i n cs end b p in record { init = h.init; next = h.next; specification = h.specification }
+only_after None (Some n) (Specification at w ∷ cs) end b p = absurd (no_ok at b p)
+only_after (Some i) n (Specification at w ∷ cs) end b p = absurd (no_ok at b p)
+only_after i n (Invariants at ws ∷ cs) end b p = let h = only_after i n cs end b p in record { init = h.init; next = h.next; specification = h.specification }
+only_after i n (Constraints at ws ∷ cs) end b p = let h = only_after i n cs end b p in record { init = h.init; next = h.next; specification = h.specification }
+only_after i n (CheckDeadlock at check ∷ cs) end b p = let h = only_after i n cs end b p in record { init = h.init; next = h.next; specification = h.specification }
+only_after i n (Constants at is ∷ cs) end b p = let h = only_after i n cs end b p in record { init = h.init; next = h.next; specification = h.specification }
 
 pub behaviour_only : (cs : List Statement) (end : Place) (b : Behaviour) → behaviour cs end None None ≡ Ok b → IsOnly cs b
-behaviour_only cs end b p = let h = only_behind None None cs end b p in record { init = h.init; next = h.next; specification = h.specification }
+behaviour_only cs end b p = let h = only_after None None cs end b p in record { init = h.init; next = h.next; specification = h.specification }
 
 -- the behaviour is found
 abbrev pub IsFound : Result Behaviour Place → Type 0

@@ -1,5 +1,5 @@
--- Fairness, where more or fewer names are known to stand for it.
-use Rattle.std.proofs.Common.{◌≡◌, ℕ, zero, suc, refl, ap, sym, ◌∙◌, Bool, true, not, true≢false, List, [], ◌∷◌, ◌++◌, Option, Some, None, subst, take, length}
+-- Fairness, as it is found by the names that are known to be fairness.
+use Rattle.std.proofs.Common.{◌≡◌, ℕ, zero, suc, refl, ap, sym, ◌∙◌, Bool, true, false, not, true≢false, List, [], ◌∷◌, ◌++◌, Option, Some, None, subst, take, length}
 use Rattle.std.specs.Prelude.{unwrap_or, is_some}
 use Rattle.std.proofs.Math.Seq.{take-append_seam}
 use Rattle.std.proofs.lemmas.Bool.{and_parts, and_from}
@@ -7,65 +7,19 @@ use Rattle.std.proofs.lemmas.List.Elements.{filter_map-append, filter-append}
 use Rattle.tla_tree.specs.declared.tree.Bullet.TheVariants as bullet
 use Rattle.tla_tree.specs.declared.tree.Infix.{Infix}
 use Rattle.tla_tree.specs.declared.tree.Infix.TheVariants as op
+use Rattle.tla_tree.specs.declared.tree.Quantifier.TheVariants as quantifier
 use Rattle.tla_tree.specs.declared.word.Written.{Written}
 use Rattle.tla_tree.specs.Tree.{Tree, Trees, none, more}
 use Rattle.tla_tree.specs.Tree as t
 use Rattle.tla_config.specs.Names.{Name}
 use Rattle.tla_names.specs.Scope.{Scope, arity, plain, bound_names}
 use Rattle.tla_scopes.specs.Maybe.{◌>>=◌}
-use Rattle.tla_defs.specs.Bodies.{Bodies, body_has}
+use Rattle.tla_defs.specs.Bodies.{Bodies}
+use Rattle.tla_defs.specs.Fairness.{IsDefined, IsFairness, AreFairness, of_operator, of_name, of_parens, of_and, of_list, of_all, of_none, of_more}
 use Rattle.tla_defs.specs.Private.Conjuncts.{initials_by, is_initial_by, AreMadeOfFairness}
-use Rattle.tla_defs.specs.Fairness.{fair_in, fair_each, fairness, fair_of, is_and}
-use Rattle.tla_defs.specs.Specification.{always, steps_of, conjuncts_in, conjuncts_each, conjuncts_of, conjuncts}
-use Rattle.tla_defs.proofs.Properties.{Grows, deeper}
-
-module _ (φ ψ : Name → Bool) (grows : (x : Name) → φ x ≡ true → ψ x ≡ true) where
-  mutual
-    pub more_fair : (σ : Scope) (e : Tree) → fair_in φ σ e ≡ true → fair_in ψ σ e ≡ true
-    more_fair σ (t.Fair p f v a) h = refl
-    more_fair σ (t.Name w) h = let hs = and_parts _ _ h in and_from _ _ hs.0 (grows w.word hs.1)
-    more_fair σ (t.Paren p e) h = more_fair σ e h
-    more_fair σ (t.Binary p o w a c) h =
-        let hs = and_parts _ _ h in
-        let both = and_parts _ _ hs.1 in
-        and_from _ _ hs.0 (and_from _ _ (more_fair σ a both.0) (more_fair σ c both.1))
-    more_fair σ (t.Junction p b es) h = let hs = and_parts _ _ h in and_from _ _ hs.0 (more_fair_each σ es hs.1)
-    more_fair σ (t.Quantified p q bs e) h = let hs = and_parts _ _ h in and_from _ _ hs.0 (more_fair (σ ++ plain (bound_names bs)) e hs.1)
-    more_fair σ (t.Number p n) h = absurd (true≢false (sym h))
-    more_fair σ (t.Text p n) h = absurd (true≢false (sym h))
-    more_fair σ (t.Word p c) h = absurd (true≢false (sym h))
-    more_fair σ (t.At p) h = absurd (true≢false (sym h))
-    more_fair σ (t.Listing p b es) h = absurd (true≢false (sym h))
-    more_fair σ (t.Call w es) h = absurd (true≢false (sym h))
-    more_fair σ (t.Prime p e) h = absurd (true≢false (sym h))
-    more_fair σ (t.Index p e es) h = absurd (true≢false (sym h))
-    more_fair σ (t.Field p e w) h = absurd (true≢false (sym h))
-    more_fair σ (t.Unary p o e) h = absurd (true≢false (sym h))
-    more_fair σ (t.Choose p w s e) h = absurd (true≢false (sym h))
-    more_fair σ (t.If p a b c) h = absurd (true≢false (sym h))
-    more_fair σ (t.Case p cs o) h = absurd (true≢false (sym h))
-    more_fair σ (t.Let p ds e) h = absurd (true≢false (sym h))
-    more_fair σ (t.Filter p w s e) h = absurd (true≢false (sym h))
-    more_fair σ (t.Image p e bs) h = absurd (true≢false (sym h))
-    more_fair σ (t.Function p bs e) h = absurd (true≢false (sym h))
-    more_fair σ (t.FunctionSet p s e) h = absurd (true≢false (sym h))
-    more_fair σ (t.Record p fs) h = absurd (true≢false (sym h))
-    more_fair σ (t.RecordSet p fs) h = absurd (true≢false (sym h))
-    more_fair σ (t.Except p e us) h = absurd (true≢false (sym h))
-    more_fair σ (t.Action p s a v) h = absurd (true≢false (sym h))
-    more_fair σ (t.Product p e es) h = absurd (true≢false (sym h))
-
-    more_fair_each : (σ : Scope) (es : Trees) → fair_each φ σ es ≡ true → fair_each ψ σ es ≡ true
-    more_fair_each σ none h = refl
-    more_fair_each σ (more e es) h = let hs = and_parts _ _ h in and_from _ _ (more_fair σ e hs.0) (more_fair_each σ es hs.1)
-
-pub fairness_grows : Grows fairness
-fairness_grows φ ψ g e h = more_fair φ ψ g [] e h
-
--- what stands for fairness is made of what does
-pub made_of_fairness : (b : Bodies) (n : ℕ) → AreMadeOfFairness (fair_of n b) b
-made_of_fairness b zero x e h q = absurd (true≢false (sym h))
-made_of_fairness b (suc n) x e h q = fairness_grows (fair_of n b) (fair_of (suc n) b) (λ y g. deeper fairness fairness_grows b n y g) e (ap (λ o. body_has fairness (fair_of n b) o) (sym q) ∙ h)
+use Rattle.tla_defs.specs.Private.FairnessIn.{fair_in, fair_each, is_and}
+use Rattle.tla_defs.specs.Private.Replacing.{conjuncts_in, conjuncts_each, conjuncts_of, conjuncts}
+use Rattle.tla_defs.specs.Specification.{always, steps_of}
 
 -- the one operator of conjunctions
 and_alone : (o : Infix) → is_and o ≡ true → o ≡ op.And
@@ -97,6 +51,80 @@ and_alone op.Times h = absurd (true≢false (sym h))
 and_alone op.Quotient h = absurd (true≢false (sym h))
 and_alone op.Concatenation h = absurd (true≢false (sym h))
 and_alone op.Power h = absurd (true≢false (sym h))
+
+-- a name that no quantifier binds
+pub free_name : (σ : Scope) (x : Name) (o : Option ℕ) → arity σ x ≡ o → not (is_some (arity σ x)) ≡ true → arity σ x ≡ None
+free_name σ x None q h = q
+free_name σ x (Some n) q h =
+    let bound : not (is_some (arity σ x)) ≡ false = rw q refl in
+    absurd (true≢false (sym h ∙ bound))
+
+-- what is found to be fairness is, if the names that are known to be are
+module _ (b : Bodies) (φ : Name → Bool) (known : (x : Name) → φ x ≡ true → (e : Tree) × (b x ≡ Some e) × IsFairness b [] e) where
+  named : (σ : Scope) (w : Written) → fair_in φ σ (t.Name w) ≡ true → IsFairness b σ (t.Name w)
+  named σ w h =
+      let hs = and_parts _ _ h in
+      let d = known w.word hs.1 in
+      of_name σ w d.0 (record { free = free_name σ w.word (arity σ w.word) refl hs.0; is_body = d.1 }) d.2
+
+  mutual
+    pub fairness_found : (σ : Scope) (e : Tree) → fair_in φ σ e ≡ true → IsFairness b σ e
+    fairness_found σ (t.Fair p f v a) h = of_operator σ p f v a
+    fairness_found σ (t.Name w) h = named σ w h
+    fairness_found σ (t.Paren p e) h = of_parens σ p e (fairness_found σ e h)
+    fairness_found σ (t.Binary p o w a c) h =
+        let hs = and_parts _ _ h in
+        let both = and_parts _ _ hs.1 in
+        subst (λ (k : Infix). IsFairness b σ (t.Binary p k w a c)) (sym (and_alone o hs.0)) (of_and σ p w a c (fairness_found σ a both.0) (fairness_found σ c both.1))
+    fairness_found σ (t.Junction p bullet.And es) h = of_list σ p es (each_found σ es h)
+    fairness_found σ (t.Junction p bullet.Or es) h = absurd (true≢false (sym h))
+    fairness_found σ (t.Quantified p quantifier.ForAll bs e) h = of_all σ p bs e (fairness_found (σ ++ plain (bound_names bs)) e h)
+    fairness_found σ (t.Quantified p quantifier.Exists bs e) h = absurd (true≢false (sym h))
+    fairness_found σ (t.Number p n) h = absurd (true≢false (sym h))
+    fairness_found σ (t.Text p n) h = absurd (true≢false (sym h))
+    fairness_found σ (t.Word p c) h = absurd (true≢false (sym h))
+    fairness_found σ (t.At p) h = absurd (true≢false (sym h))
+    fairness_found σ (t.Listing p b es) h = absurd (true≢false (sym h))
+    fairness_found σ (t.Call w es) h = absurd (true≢false (sym h))
+    fairness_found σ (t.Prime p e) h = absurd (true≢false (sym h))
+    fairness_found σ (t.Index p e es) h = absurd (true≢false (sym h))
+    fairness_found σ (t.Field p e w) h = absurd (true≢false (sym h))
+    fairness_found σ (t.Unary p o e) h = absurd (true≢false (sym h))
+    fairness_found σ (t.Choose p w s e) h = absurd (true≢false (sym h))
+    fairness_found σ (t.If p a b c) h = absurd (true≢false (sym h))
+    fairness_found σ (t.Case p cs o) h = absurd (true≢false (sym h))
+    fairness_found σ (t.Let p ds e) h = absurd (true≢false (sym h))
+    fairness_found σ (t.Filter p w s e) h = absurd (true≢false (sym h))
+    fairness_found σ (t.Image p e bs) h = absurd (true≢false (sym h))
+    fairness_found σ (t.Function p bs e) h = absurd (true≢false (sym h))
+    fairness_found σ (t.FunctionSet p s e) h = absurd (true≢false (sym h))
+    fairness_found σ (t.Record p fs) h = absurd (true≢false (sym h))
+    fairness_found σ (t.RecordSet p fs) h = absurd (true≢false (sym h))
+    fairness_found σ (t.Except p e us) h = absurd (true≢false (sym h))
+    fairness_found σ (t.Action p s a v) h = absurd (true≢false (sym h))
+    fairness_found σ (t.Product p e es) h = absurd (true≢false (sym h))
+
+    each_found : (σ : Scope) (es : Trees) → fair_each φ σ es ≡ true → AreFairness b σ es
+    each_found σ none h = of_none σ
+    each_found σ (more e es) h = let hs = and_parts _ _ h in of_more σ e es (fairness_found σ e hs.0) (each_found σ es hs.1)
+
+-- fairness is found, if all names whose definitions are found to be are known
+module _ (b : Bodies) (φ : Name → Bool) (closed : (x : Name) (e : Tree) → b x ≡ Some e → fair_in φ [] e ≡ true → φ x ≡ true) where
+  defined : (σ : Scope) (w : Written) (e : Tree) → IsDefined b σ w e → fair_in φ [] e ≡ true → fair_in φ σ (t.Name w) ≡ true
+  defined σ w e d h = and_from _ _ (rw d.free refl) (closed w.word e d.is_body h)
+
+  mutual
+    pub fairness_known : (σ : Scope) (e : Tree) → IsFairness b σ e → fair_in φ σ e ≡ true
+    fairness_known _ _ (of_operator σ p f v a) = refl
+    fairness_known _ _ (of_name σ w e d h) = defined σ w e d (fairness_known [] e h)
+    fairness_known _ _ (of_parens σ p e h) = fairness_known σ e h
+    fairness_known _ _ (of_and σ p w a c h g) = and_from _ _ (fairness_known σ a h) (fairness_known σ c g)
+    fairness_known _ _ (of_list σ p es h) = each_known σ es h
+    fairness_known _ _ (of_all σ p bs e h) = fairness_known (σ ++ plain (bound_names bs)) e h
+
+    each_known : (σ : Scope) (es : Trees) → AreFairness b σ es → fair_each φ σ es ≡ true
+    each_known _ _ (of_none σ) = refl
+    each_known _ _ (of_more σ e es h g) = and_from _ _ (fairness_known σ e h) (each_known σ es g)
 
 -- The conjuncts of fairness are fairness: no step, and no part of the initial predicate.
 pub record SaysNothing (φ : Name → Bool) (es : List Tree) : Type 0 where

@@ -13,7 +13,8 @@ use Rattle.tla_scopes.specs.Meanings.{Scope}
 use Rattle.tla_defs.specs.Private.Seen.{tree_at, seen}
 use Rattle.tla_defs.specs.Bodies.{Bodies, body_of}
 use Rattle.tla_defs.specs.Subscripts.{IsCover}
-use Rattle.tla_defs.specs.Specification.{Step, IsSpecification, is_conjunction, replaced, replaced_by, conjuncts, conjunction_of, initials_of, steps_of}
+use Rattle.tla_defs.specs.Private.Replacing.{conjuncts, replaced_by}
+use Rattle.tla_defs.specs.Specification.{Step, IsSpecification, HasConjuncts, AreConjuncts, is_conjunction, conjunction_of, steps_of}
 use Rattle.tla_lex.specs.declared.token.Place.{Place}
 use Rattle.tla_config.specs.declared.error.DefsCode.{DefsCode}
 use Rattle.tla_config.specs.declared.error.DefsCode.TheVariants as c
@@ -23,12 +24,15 @@ use Rattle.tla_names.specs.Refusal.{refusal_at}
 use Rattle.tla_defs.specs.Refused.{NoForm, HasTooMany}
 use Rattle.tla_defs.specs.Private.Specified.{LacksState, MayBeLast}
 use Rattle.tla_defs.specs.Private.Conjuncts.{AreMadeOfFairness, initials_by}
-use Rattle.tla_defs.specs.Fairness.{fair_in, fair_of}
-use Rattle.tla_defs.specs.Temporal.{temporal_of}
 use Rattle.tla_defs.specs.Private.Parts.{IsOfMany}
-use Rattle.tla_defs.proofs.Fairs.{made_of_fairness}
+use Rattle.tla_defs.specs.Private.Table.{AreNamesOf}
+use Rattle.tla_defs.specs.Laws.{AreInOrder}
+use Rattle.tla_defs.specs.declared.table.Class.TheVariants as class
+use Rattle.tla_defs.proofs.AllConjuncts.{all_conjuncts}
+use Rattle.tla_defs.proofs.Inits.{are_of_init, made_of_fairness}
+use Rattle.tla_names.proofs.WellScopedModule.{well_scoped_module}
 use Rattle.tla_defs.proofs.States.{lacks_state}
-use Rattle.tla_defs.proofs.Unique.{same_some}
+use Rattle.tla_defs.proofs.Unique.{one_formula, same_some}
 
 pub one_item : {A : Type 0} (xs : List A) (x : A) → length xs ≡ 1 → x ≡ get_or xs 0 x → xs ≡ x ∷ []
 one_item [] x n e = absurd (omega (arith, n))
@@ -68,47 +72,44 @@ body_replaced τ b x e h = at (b x) refl
         kept true m = let it : replaced_by τ b x ≡ Some d = rw (q, m) refl in q ∙ sym it ∙ h
         kept false m = let none : replaced_by τ b x ≡ None = rw (q, m) refl in let z : Some e ≡ None = sym h ∙ none in let y : ⊥ = cc in absurd y
 
--- what is known of fairness, where all that is fairness is known
-module _ (φ : Name → Bool) (c : Bodies) (k : ℕ) (fair : φ ≡ fair_of k c) where
-  pub made_known : (τ : Name → Bool) (b : Bodies) → b ≡ c → AreMadeOfFairness φ (replaced_by τ b)
-  made_known τ b known x e h q =
-      subst (λ (ψ : Name → Bool). fair_in ψ [] e ≡ true) (sym fair)
-      (made_of_fairness c k x e (subst (λ (ψ : Name → Bool). ψ x ≡ true) fair h) (ap (λ (d : Bodies). d x) (sym known) ∙ body_replaced τ b x e q))
+-- a name that is replaced, by its body
+body_defined : (τ : Name → Bool) (b c : Bodies) → b ≡ c → (x : Name) (e : Tree) → replaced_by τ b x ≡ Some e → c x ≡ Some e
+body_defined τ b c bodies x e h = ap (λ (d : Bodies). d x) (sym bodies) ∙ body_replaced τ b x e h
 
-  pub initials_known : (n : ℕ) → k ≡ n → (es : List Tree) → initials_by φ es ≡ initials_of n c es
-  initials_known n counted es = ap (λ (ψ : Name → Bool). initials_by ψ es) fair ∙ ap (λ m. initials_of m c es) counted
+-- the formula that is found, where the names of fairness and of temporal formulas are known
+module _ (us : List UnitTree) (is : List Item) (order : AreInOrder us is) (φ τ : Name → Bool) (fair : AreNamesOf class.Fairness (body_of us is) φ) (temporal : AreNamesOf class.Temporal (body_of us is) τ)
+    (b : Bodies) (bodies : b ≡ body_of us is) where
+  pub made_known : AreMadeOfFairness φ (replaced_by τ b)
+  made_known = made_of_fairness (body_of us is) φ fair (replaced_by τ b) (body_defined τ b (body_of us is) bodies)
 
--- the bodies that names are replaced by
-pub replaced_known : (us : List UnitTree) (is : List Item) (τ : Name → Bool) (b : Bodies) (k : ℕ) → b ≡ body_of us is → τ ≡ temporal_of k (body_of us is) → k ≡ length us → replaced_by τ b ≡ replaced us is
-replaced_known us is τ b k bodies temporal counted =
-    ap (λ (d : Bodies). replaced_by τ d) bodies ∙ ap (λ (ψ : Name → Bool). replaced_by ψ (body_of us is)) (temporal ∙ ap (λ m. temporal_of m (body_of us is)) counted)
+  pub formula : (k : ℕ) → k ≡ length us → (w : Written) (t : Tree) → body_of us is w.word ≡ Some t → HasConjuncts us is w (conjuncts k (replaced_by τ b) t) (initials_by φ (conjuncts k (replaced_by τ b) t))
+  formula k counted w t body =
+      let found = all_conjuncts us is ((well_scoped_module us).0 order.known) order.given order.straight τ temporal w.word t body in
+      let same = ap (λ m. conjuncts m (replaced_by τ (body_of us is)) t) (sym counted) ∙ ap (λ (c : Bodies). conjuncts k (replaced_by τ c) t) (sym bodies) in
+      record {
+        body = t;
+        is_body = body;
+        all = subst (λ cs. AreConjuncts (body_of us is) t cs) same found;
+        of_init = are_of_init (body_of us is) φ fair (conjuncts k (replaced_by τ b) t);
+      }
 
-pub is_told : {k : DefsCode} → k ≡ c.SpecificationForm → k ≡ c.Memory → ⊥
-is_told p q = cc
+pub is_named : {k : DefsCode} → k ≡ c.SpecificationForm → k ≡ c.Memory → ⊥
+is_named p q = cc
 
 module _ (us : List UnitTree) (is : List Item) (σ : Scope) (n : ℕ) (w : Written) where
   pub no_body : body_of us is w.word ≡ None → NoForm us is σ n w
-  no_body p i a h = let q = h.is_body in let z : ⊥ = cc in absurd z
+  no_body p i a h = let q = h.formula.is_body in let z : ⊥ = cc in absurd z
 
-  module _ (t : Tree) (r : Bodies) (k : ℕ) (known : r ≡ replaced us is) (counted : k ≡ length us) (body : body_of us is w.word ≡ Some t) (steps : List Step) (initial : List Tree)
-      (steps_are : steps ≡ steps_of (conjuncts k r t)) (initial_are : initial ≡ initials_of (length us) (body_of us is) (conjuncts k r t)) where
-    found_conjuncts : conjuncts k r t ≡ conjuncts (length us) (replaced us is) t
-    found_conjuncts = ap (λ (c : Bodies). conjuncts k c t) known ∙ ap (λ m. conjuncts m (replaced us is) t) counted
-
-    are_steps : steps ≡ steps_of (conjuncts (length us) (replaced us is) t)
-    are_steps = steps_are ∙ ap (λ es. steps_of es) found_conjuncts
-
-    are_initial : initial ≡ initials_of (length us) (body_of us is) (conjuncts (length us) (replaced us is) t)
-    are_initial = initial_are ∙ ap (λ es. initials_of (length us) (body_of us is) es) found_conjuncts
-
-    same_body : (i a : Tree) (h : IsSpecification us is σ n w i a) → h.body ≡ t
-    same_body i a h = same_some (body_of us is w.word) h.body t h.is_body body
-
+  module _ (all initial : List Tree) (steps : List Step) (formula : HasConjuncts us is w all initial) (steps_are : steps ≡ steps_of all) where
     its_steps : (i a : Tree) (h : IsSpecification us is σ n w i a) → steps ≡ (a, h.subscript) ∷ []
-    its_steps i a h = are_steps ∙ ap (λ e. steps_of (conjuncts (length us) (replaced us is) e)) (sym (same_body i a h)) ∙ h.one_step
+    its_steps i a h =
+        let one = one_formula us is w all initial h.conjuncts h.initials formula h.formula in
+        steps_are ∙ ap (λ es. steps_of es) one.0 ∙ h.one_step
 
     its_initial : (i a : Tree) (h : IsSpecification us is σ n w i a) → conjunction_of initial ≡ Some i
-    its_initial i a h = ap (λ es. conjunction_of es) (are_initial ∙ ap (λ e. initials_of (length us) (body_of us is) (conjuncts (length us) (replaced us is) e)) (sym (same_body i a h))) ∙ h.is_initial
+    its_initial i a h =
+        let one = one_formula us is w all initial h.conjuncts h.initials formula h.formula in
+        ap (λ es. conjunction_of es) one.1 ∙ h.is_initial
 
     pub not_one : (length steps ≡ 1 → ⊥) → NoForm us is σ n w
     not_one p i a h = absurd (p (ap (λ es. length es) (its_steps i a h)))
@@ -130,11 +131,7 @@ module _ (us : List UnitTree) (is : List Item) (σ : Scope) (n : ℕ) (w : Writt
     two_steps m i a h = let one = ap (λ es. length es) (its_steps i a h) in absurd (omega (arith, m, one))
 
     too_many : 200001 ≤ length initial → HasTooMany us is w
-    too_many m = record {
-      body = t;
-      is_body = body;
-      many = subst (λ es. 200001 ≤ length es) are_initial m;
-    }
+    too_many m = record { conjuncts = all; initials = initial; formula = formula; many = m }
 
     pub no_form : (p : Place) (e : DefsError) → IsOfMany p steps initial e → e.code ≡ c.SpecificationForm → NoForm us is σ n w
     no_form p e (inl (q, m)) h = two_steps m
@@ -149,10 +146,11 @@ module _ (us : List UnitTree) (is : List Item) (σ : Scope) (n : ℕ) (w : Writt
 
     pub found : (s : Step) (i : Tree) → steps ≡ s ∷ [] → IsCover σ n s.1 → conjunction_of initial ≡ Some i → IsSpecification us is σ n w i s.0
     found s i p cover q = record {
-      body = t;
-      is_body = body;
+      conjuncts = all;
+      initials = initial;
+      formula = formula;
       subscript = s.1;
-      one_step = sym are_steps ∙ p;
+      one_step = sym steps_are ∙ p;
       covered = cover;
-      is_initial = ap (λ es. conjunction_of es) (sym are_initial) ∙ q;
+      is_initial = q;
     }

@@ -1,5 +1,5 @@
 -- The model of its parts, and its formulas as the code finds them.
-use Rattle.std.proofs.Common.{◌≡◌, refl, ap, sym, ◌∙◌, Bool, List, [], ◌∷◌, ◌++◌, None, ◌<◌, length, arith, subst, append-nil, map}
+use Rattle.std.proofs.Common.{◌≡◌, refl, ap, sym, ◌∙◌, Bool, List, [], ◌∷◌, ◌++◌, None, subst, append-nil, map}
 use Rattle.tla_core.specs.Expr.{Expr}
 use Rattle.tla_core.specs.ExprOf.{expr_of}
 use Rattle.tla_core.specs.declared.expression.Core.{Core}
@@ -57,10 +57,10 @@ parts_model us cs σ vs assumed init next is ks check i n at known given valued 
     }
 
 -- where no unit is left, the assumptions are all there
-pub assumptions_end : (σ : Scope) (left : List Unit) (all : List Tree) (done : List Expr) → length left < 1
+pub assumptions_end : (σ : Scope) (left : List Unit) (all : List Tree) (done : List Expr) → left ≡ []
     → ((es : List Expr) → AreAssumptions σ (assumptions_of (map unit_view left)) es → AreAssumptions σ all (done ++ es)) → AreAssumptions σ all done
 assumptions_end σ [] all done h f = subst (λ xs. AreAssumptions σ all xs) (append-nil done) (f [] tt)
-assumptions_end σ (u ∷ left) all done h f = absurd (omega (arith, h))
+assumptions_end σ (u ∷ left) all done h f = let z : ⊥ = cc in absurd z
 
 snoc : {A : Type 0} (xs : List A) (x : A) (ys : List A) → (xs ++ x ∷ []) ++ ys ≡ xs ++ x ∷ ys
 snoc [] x ys = refl
@@ -78,7 +78,7 @@ predicates_step σ w left all done new i pushed name found f is h =
     subst (λ xs. AreStatePredicates σ all xs) (sym more) (f (predicate_of i ∷ is) (name, found, h))
 
 -- where no name is left, the state predicates are all there
-pub predicates_end : (σ : Scope) (left : List (Bor Written)) (all : List Written) (done : List (Name × Expr)) → length left < 1
+pub predicates_end : (σ : Scope) (left : List (Bor Written)) (all : List Written) (done : List (Name × Expr)) → left ≡ []
     → Follow σ (mentions left) all done → AreStatePredicates σ all done
 predicates_end σ [] all done h f = subst (λ xs. AreStatePredicates σ all xs) (append-nil done) (f [] tt)
-predicates_end σ (w ∷ left) all done h f = absurd (omega (arith, h))
+predicates_end σ (w ∷ left) all done h f = let z : ⊥ = cc in absurd z

@@ -14,10 +14,11 @@ use Rattle.tla_defs.specs.declared.conjuncts.Formula.{Formula}
 use Rattle.tla_defs.specs.declared.parts.Parts.{Parts}
 use Rattle.tla_defs.specs.Bodies.{Bodies}
 use Rattle.tla_defs.specs.Private.Conjuncts.{conjuncts_from, conjuncts_left, initials_by, is_initial_by, AreMadeOfFairness, AreFoundOrLeft}
-use Rattle.tla_defs.specs.Fairness.{fair_in}
+use Rattle.tla_defs.specs.Private.FairnessIn.{fair_in}
 use Rattle.tla_defs.specs.Private.Parts.{steps_in, IsOfMany}
 use Rattle.tla_defs.specs.Private.Seen.{tree_at, seen}
-use Rattle.tla_defs.specs.Specification.{Step, always, steps_of, conjuncts_in, conjuncts_each}
+use Rattle.tla_defs.specs.Private.Replacing.{conjuncts_in, conjuncts_each}
+use Rattle.tla_defs.specs.Specification.{Step, always, steps_of}
 use Rattle.tla_defs.proofs.Fairs.{SaysNothing, fair_says_nothing}
 
 -- the last formula comes first
@@ -72,7 +73,7 @@ module _ (φ : Name → Bool) (b : Bodies) (left : List Formula) (f : Formula) (
             ∙ sym (append_assoc (seen p.initial.items) (initials_by φ (t ∷ [])) (initials_by φ (conjuncts_left b left))) ∙ ap (λ xs. xs ++ initials_by φ (conjuncts_left b left)) (sym i);
       }
 
--- what is told of those that were found is told of all
+-- a refusal for those that were found is one for all
 pub of_found : (φ : Name → Bool) (b : Bodies) (left : List Formula) (p : Parts) (ss : List Step) (es : List Tree) (at : Place) (e : DefsError) → AreFoundOrLeft φ b left p ss es → IsOfMany at (steps_in p) (seen p.initial.items) e → IsOfMany at ss es e
 of_found φ b left p ss es at e r (inl (q, m)) =
     let all = ap (λ xs. length xs) r.steps ∙ length-append (steps_in p) (steps_of (conjuncts_left b left)) in

@@ -7,7 +7,7 @@ use Rattle.tla_defs.specs.Global.{meant}
 use Rattle.tla_defs.specs.GivenRows.{constant_unit, given_tree, given_item, variable_unit, unchanged_tree, replaced_units, replacement, WithValue, WithReplacement, Cycle, TwoVariables}
 use Rattle.tla_items.specs.References.{references, at_word}
 use Rattle.tla_items.specs.Cycles.{AreStraight}
-use Rattle.tla_defs.specs.NamedRows.{behind}
+use Rattle.tla_defs.specs.NamedRows.{module_with}
 use Rattle.tla_defs.specs.Rows.{word, init_before}
 use Rattle.tla_names.proofs.WellScopedModule.{well_scoped_module}
 use Rattle.tla_items.proofs.Walks.{leads_nowhere, leads_to_end}
@@ -22,8 +22,8 @@ with_value =
       given = refl;
       valued = valued;
       named = named;
-      straight = (leads_nowhere (references (behind constant_unit given_tree) (given_item ∷ [])) (codes "N") refl, tt);
-      scope = meant (behind constant_unit given_tree) (given_item ∷ []) standard;
+      straight = (leads_nowhere (references (module_with constant_unit given_tree) (given_item ∷ [])) (codes "N") refl, tt);
+      scope = meant (module_with constant_unit given_tree) (given_item ∷ []) standard;
       is_scope = refl;
       initial = Name (word 1 6 (codes "Init"));
       action = Name (word 2 6 (codes "Next"));
@@ -73,7 +73,7 @@ two_variables =
       valued = valued;
       named = named;
       straight = tt;
-      scope = meant (behind variable_unit unchanged_tree) [] standard;
+      scope = meant (module_with variable_unit unchanged_tree) [] standard;
       is_scope = refl;
       initial = Name (word 1 6 (codes "Init"));
       action = Name (word 2 6 (codes "Next"));

@@ -6,8 +6,9 @@ pub mod SpecificationWorked
 pub mod Behaviours
 pub mod Nones
 pub mod Means
-pub mod Properties
+pub mod OneConjuncts
 pub mod Fairs
+pub mod Inits
 pub mod Temporals
 pub mod FoundOrLeft
 pub mod Tabled
@@ -22,4 +23,9 @@ pub mod Visits
 pub mod Agreeing
 pub mod Scoped
 pub mod Straight
+pub mod Unmet
+pub mod Sites
+pub mod Uses
+pub mod AllConjuncts
+pub mod HasConjuncts
 pub mod OneScope

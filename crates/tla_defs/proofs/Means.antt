@@ -1,5 +1,5 @@
 -- What a behaviour means: its initial predicate and its action.
-use Rattle.std.proofs.Common.{◌≡◌, refl, ap, sym, ◌∙◌, subst, inl, inr, ℕ, length, List, Some}
+use Rattle.std.proofs.Common.{◌≡◌, ◌≤◌, refl, ap, sym, ◌∙◌, subst, inl, inr, ℕ, length, List, Some}
 use Rattle.tla_core.specs.Expr.{Expr}
 use Rattle.tla_tree.specs.Tree.{Tree}
 use Rattle.tla_tree.specs.Tree as t
@@ -13,17 +13,16 @@ use Rattle.tla_scopes.specs.Primes.{with_primes}
 use Rattle.tla_model.specs.ModelTree.{ModelTree}
 use Rattle.tla_defs.specs.declared.init_and_next.InitAndNext.{InitAndNext}
 use Rattle.tla_defs.specs.declared.init_and_next.InitAndNext.TheVariants as meant
-use Rattle.tla_defs.specs.Bodies.{body_of}
 use Rattle.tla_defs.specs.Global.{IsScopeOf}
 use Rattle.tla_names.specs.Misuses.{variables_of}
 use Rattle.tla_formulas.specs.Formulas.{IsInitial}
 use Rattle.tla_defs.specs.Model.{IsModel, IsBehaviour, specifications_named}
 use Rattle.tla_defs.specs.Refused.{Behaviour, Named, Specified}
-use Rattle.tla_defs.specs.Specification.{IsSpecification, conjunction_of, conjuncts, initials_of, replaced}
+use Rattle.tla_defs.specs.Specification.{IsSpecification}
 use Rattle.tla_defs.specs.Private.Specified.{IsOnly, IsMeant, NoneMeant, HasMany, MayBeLast, form_refused, initial_tree, action_tree}
 use Rattle.tla_defs.proofs.OneScope.{model_scope}
 use Rattle.tla_defs.proofs.States.{too_long}
-use Rattle.tla_defs.proofs.Unique.{same_one, same_some}
+use Rattle.tla_defs.proofs.Unique.{one_formula, same_one}
 
 -- they are those of the configuration
 abbrev pub Means : List UnitTree → List Statement → Scope → InitAndNext → Type 0
@@ -65,17 +64,16 @@ none_of_behaviour us cs σ (Specified p w) i a e only last none (inl h) x init =
     z
 none_of_behaviour us cs σ (Specified p w) i a e only (inl q) none (inr h) x init =
     let same = same_one (specifications_named cs) w h.name only.specification h.one_specification in
-    let told : e.code ≡ c.SpecificationForm = ap (λ (d : DefsError). d.code) (sym (same_refusal _ e q)) in
-    let gone = none told i a (rw same h.form) in
+    let code : e.code ≡ c.SpecificationForm = ap (λ (d : DefsError). d.code) (sym (same_refusal _ e q)) in
+    let gone = none code i a (rw same h.form) in
     let meaning = ap (with_primes Once) init.meaning ∙ init.primed in
     let z : ⊥ = cc in
     z
 none_of_behaviour us cs σ (Specified p w) i a e only (inr (l, many)) none (inr h) x init =
     let same = same_one (specifications_named cs) w h.name only.specification h.one_specification in
     let form : IsSpecification us (items_of cs) σ (length (variables_of us)) w i a = rw same h.form in
-    let body = same_some (body_of us (items_of cs) w.word) form.body many.body form.is_body many.is_body in
-    too_long σ (initials_of (length us) (body_of us (items_of cs)) (conjuncts (length us) (replaced us (items_of cs)) many.body)) i
-    (subst (λ t. conjunction_of (initials_of (length us) (body_of us (items_of cs)) (conjuncts (length us) (replaced us (items_of cs)) t)) ≡ Some i) body form.is_initial) many.many x init
+    let one = one_formula us (items_of cs) w many.conjuncts many.initials form.conjuncts form.initials many.formula form.formula in
+    too_long σ form.initials i form.is_initial (subst (λ es. 200001 ≤ length es) one.1 many.many) x init
 
 -- the scope, the items and the number of variables are those of the texts
 pub meaning_behaviour : (us : List UnitTree) (cs : List Statement) (is : List Item) (σ : Scope) (n : ℕ) (b : Behaviour) (m : InitAndNext) → is ≡ items_of cs → n ≡ length (variables_of us)

@@ -4,7 +4,7 @@ use Rattle.std.specs.Prelude.{codes}
 use Rattle.tla_tree.specs.Tree.{Name}
 use Rattle.tla_scopes.specs.Meanings.{standard}
 use Rattle.tla_defs.specs.Global.{meant}
-use Rattle.tla_defs.specs.NamedRows.{behind, plus_one, use_tree, let_tree, some_unit, meeting_tree, WithParameter, WithLet, WithoutCapture}
+use Rattle.tla_defs.specs.NamedRows.{module_with, plus_one, use_tree, let_tree, some_unit, meeting_tree, WithParameter, WithLet, WithoutCapture}
 use Rattle.tla_defs.specs.Rows.{word, init_before}
 use Rattle.tla_defs.proofs.Worked.{within, by_names, well_named}
 
@@ -16,7 +16,7 @@ with_parameter =
       valued = valued;
       named = named;
       straight = tt;
-      scope = meant (behind plus_one use_tree) [] standard;
+      scope = meant (module_with plus_one use_tree) [] standard;
       is_scope = refl;
       initial = Name (word 1 6 (codes "Init"));
       action = Name (word 2 6 (codes "Next"));
@@ -38,7 +38,7 @@ with_let =
       valued = valued;
       named = named;
       straight = tt;
-      scope = meant (behind plus_one let_tree) [] standard;
+      scope = meant (module_with plus_one let_tree) [] standard;
       is_scope = refl;
       initial = Name (word 1 6 (codes "Init"));
       action = Name (word 2 6 (codes "Next"));
@@ -60,7 +60,7 @@ without_capture =
       valued = valued;
       named = named;
       straight = tt;
-      scope = meant (behind some_unit meeting_tree) [] standard;
+      scope = meant (module_with some_unit meeting_tree) [] standard;
       is_scope = refl;
       initial = Name (word 1 6 (codes "Init"));
       action = Name (word 2 6 (codes "Next"));

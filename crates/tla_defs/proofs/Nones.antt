@@ -60,13 +60,13 @@ pub meaning_refused : (us : List UnitTree) (cs : List Statement) (is : List Item
 meaning_refused us cs is σ n (Named i a) e given at counted (inl q) none = let z : ⊥ = cc in absurd z
 meaning_refused us cs is σ n (Named i a) e given at counted (inr (l, many)) none = absurd many
 meaning_refused us cs is σ n (Specified p w) e given at counted (inr (l, many)) none = (σ, at, inl (inr (l, subst (λ js. HasTooMany us js w) given many)))
-meaning_refused us cs is σ n (Specified p w) e given at counted (inl q) none = (σ, at, inl (inl (told, no_form)))
+meaning_refused us cs is σ n (Specified p w) e given at counted (inl q) none = (σ, at, inl (inl (same, no_form)))
   where
-    told : refusal_at c.SpecificationForm source.Configuration p ≡ e
-    told = cc
+    same : refusal_at c.SpecificationForm source.Configuration p ≡ e
+    same = cc
 
     no_form : NoForm us (items_of cs) σ (length (variables_of us)) w
-    no_form = subst (λ js. NoForm us js σ (length (variables_of us)) w) given (subst (λ k. NoForm us is σ k w) counted (none (ap (λ (d : DefsError). d.code) (sym told))))
+    no_form = subst (λ js. NoForm us js σ (length (variables_of us)) w) given (subst (λ k. NoForm us is σ k w) counted (none (ap (λ (d : DefsError). d.code) (sym same))))
 
 -- where the steps before them refuse nothing, the names of the configuration are what is refused
 pub name_refusal : (us : List UnitTree) (config : ConfigTree) (is : List Item) (b : Behaviour) (e : DefsError) → misuse us ≡ None → is ≡ items_of config.statements

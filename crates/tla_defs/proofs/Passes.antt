@@ -152,15 +152,15 @@ operator_settled : (w op : Name) (js : List Item) (xs ys : List Name) (σ τ : S
 operator_settled w op js xs ys σ τ false e h k g = h op e
 operator_settled w op js xs ys σ τ true e h k g = absurd (not_itself w (is_among w (with_operators_of ys js)) (k g))
 
-not_behind : (x w : Name) (zs : List Name) (b : Bool) → is_among x (if b then w ∷ zs else zs) ≡ false → is_among x zs ≡ false
-not_behind x w zs false h = h
-not_behind x w zs true h = no_second (bytes_eq x w) (is_among x zs) h
+not_in_rest : (x w : Name) (zs : List Name) (b : Bool) → is_among x (if b then w ∷ zs else zs) ≡ false → is_among x zs ≡ false
+not_in_rest x w zs false h = h
+not_in_rest x w zs true h = no_second (bytes_eq x w) (is_among x zs) h
 
 next_settled : (js : List Item) (xs ys : List Name) (σ τ : Scope) → Outside ys σ τ → ((x : Name) → is_among x xs ≡ false → is_among x (with_operators_of ys js) ≡ false) → AreSettled xs js σ τ
 next_settled [] xs ys σ τ h k = tt
 next_settled (Value w v ∷ js) xs ys σ τ h k = next_settled js xs ys σ τ h k
 next_settled (Replaces w op ∷ js) xs ys σ τ h k =
-    (operator_settled w.word op.word js xs ys σ τ (is_among op.word ys) refl h (k w.word), next_settled js xs ys σ τ h (λ x g. not_behind x w.word (with_operators_of ys js) (is_among op.word ys) (k x g)))
+    (operator_settled w.word op.word js xs ys σ τ (is_among op.word ys) refl h (k w.word), next_settled js xs ys σ τ h (λ x g. not_in_rest x w.word (with_operators_of ys js) (is_among op.word ys) (k x g)))
 
 -- after one pass more those are open whose operator leads to what was open
 pub still_settled : (us : List UnitTree) (is : List Item) (xs : List Name) (β ρ : Scope) → AreSettled xs is β ρ → AreSettled (still_open us is xs) is (meant us is β) (meant us is ρ)

@@ -1,6 +1,7 @@
 -- The conjuncts of an initial predicate: where one is not of state level, the whole isn't, and where they are too
 -- many, it is not within the limits.
-use Rattle.std.proofs.Common.{◌≡◌, ◌≤◌, refl, ap, sym, ◌∙◌, subst, inl, inr, arith, length, get_or, List, [], ◌∷◌, Option, Some, None}
+use Rattle.std.proofs.Common.{◌≡◌, ◌≤◌, ◌<◌, ℕ, drop, refl, ap, sym, ◌∙◌, subst, inl, inr, arith, length, get_or, List, [], ◌∷◌, Option, Some, None}
+use Rattle.std.proofs.lemmas.List.{drop_more}
 use Rattle.std.specs.Borrow.{Bor}
 use Rattle.tla_core.specs.Expr.{Expr, Exprs, conjunction, more_exprs}
 use Rattle.tla_model.specs.Size.{nodes, nodes_each}
@@ -122,6 +123,6 @@ too_long σ [] i p l e h = omega (arith, l)
 too_long σ (t ∷ []) i p l e h = omega (arith, l)
 too_long σ (t ∷ u ∷ ts) i p l e h = list_too_long σ (place t) (t ∷ u ∷ ts) l e (subst (λ v. IsInitial σ v e) (sym (same_tree _ i p)) h)
 
-pub lacks_first : (σ : Scope) (ts : List (Bor s.Expr)) (t : Bor s.Expr) → 1 ≤ length ts → t ≡ get_or ts 0 t → with_primes Once (expand (tree_at t) σ 0) ≡ None → LacksState σ (seen ts)
-lacks_first σ [] t n e l = absurd (omega (arith, n))
-lacks_first σ (u ∷ ts) t n e l = inl (subst (λ (v : Bor s.Expr). with_primes Once (expand (tree_at v) σ 0) ≡ None) e l)
+pub lacks_at : (σ : Scope) (ts : List (Bor s.Expr)) (t : Bor s.Expr) (i : ℕ) → i < length ts → t ≡ get_or ts i t → with_primes Once (expand (tree_at t) σ 0) ≡ None → LacksState σ (seen (drop i ts))
+lacks_at σ ts t i n e l =
+    subst (λ (us : List (Bor s.Expr)). LacksState σ (seen us)) (sym (drop_more ts i t n)) (inl (subst (λ (v : Bor s.Expr). with_primes Once (expand (tree_at v) σ 0) ≡ None) e l))

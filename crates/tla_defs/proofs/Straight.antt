@@ -37,7 +37,7 @@ Leads ls x y = (zs : List Name) × LeadsBy ls x zs y
 abbrev pub Reaches : List Reference → Name → Name → Type 0
 Reaches ls x y = (x ≡ y) ⊎ Leads ls x y
 
-joined : (ls : List Reference) (x y z : Name) (ps qs : List Name) → LeadsBy ls x ps y → LeadsBy ls y qs z → LeadsBy ls x (ps ++ y ∷ qs) z
+pub joined : (ls : List Reference) (x y z : Name) (ps qs : List Name) → LeadsBy ls x ps y → LeadsBy ls y qs z → LeadsBy ls x (ps ++ y ∷ qs) z
 joined ls x y z [] qs h k = (h, k)
 joined ls x y z (p ∷ ps) qs h k = (h.0, joined ls p y z ps qs h.1 k)
 
@@ -45,7 +45,7 @@ reach_on : (ls : List Reference) (x y z : Name) → Reaches ls x y → is_among 
 reach_on ls x y z (inl e) h = inr ([], subst (λ v. is_among z (next_names ls v) ≡ true) (sym e) h)
 reach_on ls x y z (inr w) h = inr (w.0 ++ y ∷ [], joined ls x y z w.0 [] w.1 h)
 
-led_to : (ls : List Reference) (z x c : Name) → Leads ls z x → Reaches ls x c → Leads ls z c
+pub led_to : (ls : List Reference) (z x c : Name) → Leads ls z x → Reaches ls x c → Leads ls z c
 led_to ls z x c l (inl e) = subst (λ v. Leads ls z v) e l
 led_to ls z x c l (inr w) = (l.0 ++ x ∷ w.0, joined ls z x c l.0 w.0 l.1 w.1)
 
@@ -61,18 +61,18 @@ others zs [] = 0
 others zs (Value w v ∷ is) = others zs is
 others zs (Replaces w op ∷ is) = if is_among w.word zs then others zs is else others zs is + 1
 
-falls : (a b : Bool) (m n : ℕ) → m ≤ n → (if (a || b) then m else m + 1) ≤ (if b then n else n + 1)
+pub falls : (a b : Bool) (m n : ℕ) → m ≤ n → (if (a || b) then m else m + 1) ≤ (if b then n else n + 1)
 falls true true m n h = h
 falls true false m n h = omega (arith, h)
 falls false true m n h = h
 falls false false m n h = omega (arith, h)
 
-less_here : (a b : Bool) (m n : ℕ) → a ≡ true → b ≡ false → m ≤ n → (if (a || b) then m else m + 1) + 1 ≤ (if b then n else n + 1)
+pub less_here : (a b : Bool) (m n : ℕ) → a ≡ true → b ≡ false → m ≤ n → (if (a || b) then m else m + 1) + 1 ≤ (if b then n else n + 1)
 less_here true false m n e f h = omega (arith, h)
 less_here true true m n e f h = let z : ⊥ = cc in absurd z
 less_here false b m n e f h = let z : ⊥ = cc in absurd z
 
-less_there : (a b : Bool) (m n : ℕ) → m + 1 ≤ n → (if (a || b) then m else m + 1) + 1 ≤ (if b then n else n + 1)
+pub less_there : (a b : Bool) (m n : ℕ) → m + 1 ≤ n → (if (a || b) then m else m + 1) + 1 ≤ (if b then n else n + 1)
 less_there true true m n h = h
 less_there true false m n h = omega (arith, h)
 less_there false true m n h = h
@@ -115,7 +115,7 @@ once δ μ before (Replaces w o ∷ is) c op m (inr h) =
     not_in_more c w.word before (once δ μ (before ++ w.word ∷ []) is c op (none_second (item_misused δ μ before (Replaces w o)) (items_misused δ μ (before ++ w.word ∷ []) is) m) h)
 
 -- a name with an item leads to its operator alone
-next_at : (δ μ : names.Scope) (before : List Name) (is : List Item) (ls : List Reference) (c op : Name) → items_misused δ μ before is ≡ None → Has is c op → next_names (map item_reference is ++ ls) c ≡ op ∷ []
+pub next_at : (δ μ : names.Scope) (before : List Name) (is : List Item) (ls : List Reference) (c op : Name) → items_misused δ μ before is ≡ None → Has is c op → next_names (map item_reference is ++ ls) c ≡ op ∷ []
 next_at δ μ before [] ls c op m h = absurd h
 next_at δ μ before (Value w v ∷ is) ls c op m h =
     let n = none_second (item_misused δ μ before (Value w v)) (items_misused δ μ (before ++ w.word ∷ []) is) m in
@@ -129,7 +129,7 @@ next_at δ μ before (Replaces w o ∷ is) ls c op m (inr h) =
     ap (λ b. if b then o.word ∷ [] else next_names (map item_reference is ++ ls) c) other ∙ next_at δ μ (before ++ w.word ∷ []) is ls c op n h
 
 -- one without leads where its definition does
-next_after : (is : List Item) (ls : List Reference) (x : Name) → is_among x (replaced_names is) ≡ false → next_names (map item_reference is ++ ls) x ≡ next_names ls x
+pub next_after : (is : List Item) (ls : List Reference) (x : Name) → is_among x (replaced_names is) ≡ false → next_names (map item_reference is ++ ls) x ≡ next_names ls x
 next_after [] ls x h = refl
 next_after (Value w v ∷ is) ls x h =
     ap (λ b. if b then [] else next_names (map item_reference is ++ ls) x) (not_first (bytes_eq x w.word) (is_among x (replaced_names is)) h) ∙ next_after is ls x (not_second (bytes_eq x w.word) (is_among x (replaced_names is)) h)
@@ -138,11 +138,11 @@ next_after (Replaces w op ∷ is) ls x h =
     ∙ next_after is ls x (not_second (bytes_eq x w.word) (is_among x (replaced_names is)) h)
 
 -- ---- what is in scope and used
-some_if : (b : Bool) (k : ℕ) → is_some (if b then Some k else None) ≡ b
+pub some_if : (b : Bool) (k : ℕ) → is_some (if b then Some k else None) ≡ b
 some_if true k = refl
 some_if false k = refl
 
-known_in : (δ : names.Scope) (xs : List Name) (x : Name) → is_among x xs ≡ true → knows δ x ≡ true → is_among x (known_among δ xs) ≡ true
+pub known_in : (δ : names.Scope) (xs : List Name) (x : Name) → is_among x xs ≡ true → knows δ x ≡ true → is_among x (known_among δ xs) ≡ true
 known_in δ [] x m k = let z : ⊥ = cc in absurd z
 known_in δ (y ∷ ys) x m k = by (λ n. known_in δ ys x n k) (bytes_eq x y) (knows δ y) refl refl m
   where
@@ -199,13 +199,13 @@ narrowed : (δ : names.Scope) (xs : List Name) (M : Scope → Meaning) → ((σ 
 narrowed δ xs M same alike σ τ g h =
     same σ (cut (at δ) σ) (cut_agree (at δ) σ) ∙ alike (cut (at δ) σ) (cut (at δ) τ) (cut_alike δ xs σ τ g h) ∙ sym (same τ (cut (at δ) τ) (cut_agree (at δ) τ))
 
-new_none : (δ : names.Scope) (w : Written) (b : Bool) → knows δ w.word ≡ b → new_name δ w ≡ None → knows δ w.word ≡ false
+pub new_none : (δ : names.Scope) (w : Written) (b : Bool) → knows δ w.word ≡ b → new_name δ w ≡ None → knows δ w.word ≡ false
 new_none δ w false e h = e
 new_none δ w true e h =
     let f : new_name δ w ≡ Some (Twice w) = rw e refl in
     let z : ⊥ = cc in absurd z
 
-not_known : (δ γ : names.Scope) (v : Name) → knows (δ ++ γ) v ≡ false → knows δ v ≡ false
+pub not_known : (δ γ : names.Scope) (v : Name) → knows (δ ++ γ) v ≡ false → knows δ v ≡ false
 not_known δ γ v h = not_first (knows δ v) (knows γ v) (sym (knows_append δ γ v) ∙ h)
 
 not_this : (δ : names.Scope) (w : Name) (k : ℕ) (v : Name) → knows (δ ++ (w, k) ∷ []) v ≡ false → bytes_eq v w ≡ false

@@ -1,5 +1,5 @@
 -- The definitions of a module in a table.
-use Rattle.std.proofs.Common.{◌≡◌, ◌≤◌, ◌<◌, ◌+◌, ◌-◌, ◌*◌, ℕ, suc, refl, ap, sym, ◌∙◌, arith, Bool, true, false, true≢false, List, [], ◌∷◌, ◌++◌, length, option_map, Option, Some, None, if◌then◌else◌, slice_get}
+use Rattle.std.proofs.Common.{◌≡◌, ◌≤◌, ◌<◌, ◌+◌, ◌-◌, ◌*◌, ℕ, suc, refl, ap, sym, ◌∙◌, arith, Bool, true, false, true≢false, List, [], ◌∷◌, ◌++◌, subst, length, option_map, Option, Some, None, if◌then◌else◌, slice_get}
 use Rattle.std.specs.Prelude.{unwrap_or}
 use Rattle.std.specs.Borrow.{Bor}
 use Rattle.std.specs.Map.{lookup}
@@ -14,10 +14,13 @@ use Rattle.tla_names.proofs.Inserted.{same, named, same_name, lookup_after}
 use Rattle.tla_scopes.specs.Maybe.{◌>>=◌}
 use Rattle.tla_names.specs.Maybe.{or_else}
 use Rattle.tla_defs.specs.declared.table.Body.{Body}
-use Rattle.tla_defs.specs.Bodies.{Bodies, Property, body_if, body_in, body_of, body_has, names_with}
+use Rattle.tla_defs.specs.declared.table.Class.{Class}
+use Rattle.tla_defs.specs.declared.table.Class.TheVariants as class
+use Rattle.tla_defs.specs.Bodies.{Bodies, body_if, body_in, body_of}
 use Rattle.tla_defs.specs.Private.Seen.{tree_at}
-use Rattle.tla_defs.specs.Private.Table.{Row, definition_at, body_at, found_at, bodies_by, found_by, found_count, AreRight, IsFound, SameDefinitions}
-use Rattle.tla_defs.proofs.Properties.{Grows, deeper, deeper_within, all_names, same_answer}
+use Rattle.tla_defs.specs.Private.Table.{Row, definition_at, body_at, found_at, bodies_by, found_by, found_count, is_of_class, IsOfClass, NamesClass, AreNamesOf, AreRight, IsFound, SameDefinitions}
+use Rattle.tla_defs.proofs.Fairs.{fairness_found, fairness_known}
+use Rattle.tla_defs.proofs.Temporals.{temporal_found, temporal_known}
 
 -- a new name at the end
 lookup_end : {V : Type 0} (es : List (Bor Name × V)) (k : Bor Name) (v : V) (x : Name) → lookup (named x) es ≡ None → lookup (named x) (es ++ (k, v) ∷ []) ≡ (if bytes_eq x k.now then Some v else None)
@@ -115,50 +118,52 @@ by_meant es fs is h x (Some y) m = rw m (h y)
 pub same_by : (es fs : List Row) (is : List Item) → ((x : Name) → body_at fs x ≡ body_at es x) → bodies_by fs is ≡ bodies_by es is
 same_by es fs is h = λ j x. by_meant es fs is h x (stands_for is x) refl j
 
-module _ (f : Property) (grows : Grows f) (es : List Row) (is : List Item) (k : Bor Name) (d e : Body) (is_there : definition_at es k.now ≡ Some d) (unfound : d.is_found ≡ false) (tree : e.tree ≡ d.tree) (found : e.is_found ≡ true)
-    (made : f (found_by es is) (tree_at d.tree) ≡ true) where
+-- what is found to be of a class is, if the names that are known to be are
+of_class_found : (k : Class) (b : Bodies) (φ : Name → Bool) → ((x : Name) → φ x ≡ true → NamesClass k b x) → (e : Tree) → is_of_class k φ e ≡ true → IsOfClass k b e
+of_class_found class.Fairness b φ known e h = fairness_found b φ known [] e h
+of_class_found class.Temporal b φ known e h = temporal_found b φ known [] e h
+
+-- what is of a class is found, if all names whose definitions are found to be are known
+of_class_known : (k : Class) (b : Bodies) (φ : Name → Bool) → ((x : Name) (e : Tree) → b x ≡ Some e → is_of_class k φ e ≡ true → φ x ≡ true) → (e : Tree) → IsOfClass k b e → is_of_class k φ e ≡ true
+of_class_known class.Fairness b φ closed e h = fairness_known b φ closed [] e h
+of_class_known class.Temporal b φ closed e h = temporal_known b φ closed [] e h
+
+module _ (l : Class) (es : List Row) (is : List Item) (k : Bor Name) (d e : Body) (is_there : definition_at es k.now ≡ Some d) (unfound : d.is_found ≡ false) (tree : e.tree ≡ d.tree) (found : e.is_found ≡ true)
+    (made : is_of_class l (found_by es is) (tree_at d.tree) ≡ true) where
   abbrev pub fs : List Row
   fs = insert_entry same es k e
 
   meant : (x y : Name) → stands_for is x ≡ Some y → bytes_eq y k.now ≡ true → bodies_by es is x ≡ Some (tree_at d.tree)
   meant x y m h = rw (m, same_name y k.now h, is_there) refl
 
-  goes_deeper : AreRight f es is → (x : Name) → found_by fs is x ≡ true → names_with f (suc (found_count es)) (bodies_by es is) x ≡ true
-  goes_deeper g x h = at (stands_for is x) refl
+  still_right : AreRight l es is → (x : Name) → found_by fs is x ≡ true → NamesClass l (bodies_by es is) x
+  still_right g x h = at (stands_for is x) refl
     where
-      by_other : (y : Name) → stands_for is x ≡ Some y → (c : Bool) → bytes_eq y k.now ≡ c → names_with f (suc (found_count es)) (bodies_by es is) x ≡ true
-      by_other y m true n =
-          let known = grows (found_by es is) (names_with f (found_count es) (bodies_by es is)) (λ z q. g.known z q) (tree_at d.tree) made in
-          ap (λ o. body_has f (names_with f (found_count es) (bodies_by es is)) o) (meant x y m n) ∙ known
+      by_other : (y : Name) → stands_for is x ≡ Some y → (c : Bool) → bytes_eq y k.now ≡ c → NamesClass l (bodies_by es is) x
+      by_other y m true n = (tree_at d.tree, meant x y m n, of_class_found l (bodies_by es is) (found_by es is) g.known (tree_at d.tree) made)
       by_other y m false n =
           let now : found_by fs is x ≡ found_at fs y = rw m refl in
           let was : found_by es is x ≡ found_at es y = rw m refl in
           let same : found_at fs y ≡ found_at es y = found_after es is k d e is_there unfound tree found y ∙ rw n refl in
-          deeper f grows (bodies_by es is) (found_count es) x (g.known x (was ∙ sym same ∙ sym now ∙ h))
+          g.known x (was ∙ sym same ∙ sym now ∙ h)
 
-      at : (o : Option Name) → stands_for is x ≡ o → names_with f (suc (found_count es)) (bodies_by es is) x ≡ true
+      at : (o : Option Name) → stands_for is x ≡ o → NamesClass l (bodies_by es is) x
       at None m = let none : found_by fs is x ≡ false = rw m refl in absurd (true≢false (sym h ∙ none))
       at (Some y) m = by_other y m (bytes_eq y k.now) refl
 
   pub one_more : found_count fs ≡ found_count es + 1
   one_more = count_after es k d e is_there unfound found
 
-  next : found_count fs ≡ suc (found_count es)
-  next = let one = one_more in omega (arith, one)
-
-  pub found_more : SameDefinitions f es fs is
+  pub found_more : SameDefinitions l es fs is
   found_more = record {
     bodies = same_bodies es is k d e is_there unfound tree found;
     many = length_after es k d e is_there;
     sound = λ g. record {
-      known = λ x h.
-          ap (λ n. names_with f n (bodies_by fs is) x) next
-          ∙ ap (λ (b : Bodies). names_with f (suc (found_count es)) b x) (same_by es fs is (same_bodies es is k d e is_there unfound tree found))
-          ∙ goes_deeper g x h;
+      known = λ x h. subst (λ (b : Bodies). NamesClass l b x) (sym (same_by es fs is (same_bodies es is k d e is_there unfound tree found))) (still_right g x h);
     };
   }
 
--- where a name's definition stands
+-- the row of a definition
 record IsRow (es : List Row) (d : Body) : Type 0 where
   number : ℕ
   row : Row
@@ -187,33 +192,47 @@ few (e ∷ fs) = at e.1.is_found refl (few fs)
     at true g h = rw g (omega (arith, h))
     at false g h = rw g (omega (arith, h))
 
--- what is left to find out, after a turn
+-- how much is left to find out, after a pass
 pub smaller : (n k j : ℕ) (r : Bool) → (r ≡ true → k < j) → (r ≡ false → j ≡ k) → j ≤ n → 2 * (n - j) + (if r then 1 else 0) < 2 * (n - k) + 1
 smaller n k j true one same most = let more = one refl in omega (arith, more, most)
 smaller n k j false one same most = let equal = same refl in omega (arith, equal)
 
-module _ (f : Property) (grows : Grows f) (es : List Row) (is : List Item) (passed : (i : ℕ) → i < length es → IsFound f es is i) where
-  closed_at : (x : Name) (o : Option Name) → stands_for is x ≡ o → (b : Option Body) → (o >>= λ y. definition_at es y) ≡ b → body_has f (found_by es is) (bodies_by es is x) ≡ true → found_by es is x ≡ true
-  closed_at x None m b n h =
-      let none : body_has f (found_by es is) (bodies_by es is x) ≡ false = rw m refl in
-      absurd (true≢false (sym h ∙ none))
-  closed_at x (Some y) m None n h =
-      let none : body_has f (found_by es is) (bodies_by es is x) ≡ false = rw (m, n) refl in
-      absurd (true≢false (sym h ∙ none))
-  closed_at x (Some y) m (Some d) n h =
-      let made : body_has f (found_by es is) (bodies_by es is x) ≡ f (found_by es is) (tree_at d.tree) = rw (m, n) refl in
+-- where none is known to be of the class, what is known is right
+pub none_known : (k : Class) (es : List Row) (is : List Item) → ((x : Name) → found_at es x ≡ false) → AreRight k es is
+none_known k es is none = record { known = λ x h. by x (stands_for is x) refl h }
+  where
+    by : (x : Name) (o : Option Name) → stands_for is x ≡ o → found_by es is x ≡ true → NamesClass k (bodies_by es is) x
+    by x None m h = let no : found_by es is x ≡ false = rw m refl in absurd (true≢false (sym h ∙ no))
+    by x (Some y) m h = let no : found_by es is x ≡ found_at es y = rw m refl in absurd (true≢false (sym h ∙ no ∙ none y))
+
+module _ (k : Class) (es : List Row) (is : List Item) (passed : (i : ℕ) → i < length es → IsFound k es is i) where
+  closed_at : (x : Name) (e : Tree) (o : Option Name) → stands_for is x ≡ o → (b : Option Body) → (o >>= λ y. definition_at es y) ≡ b → bodies_by es is x ≡ Some e → is_of_class k (found_by es is) e ≡ true → found_by es is x ≡ true
+  closed_at x e None m b n q h =
+      let none : bodies_by es is x ≡ None = rw m refl in
+      let z : ⊥ = cc in
+      absurd z
+  closed_at x e (Some y) m None n q h =
+      let none : bodies_by es is x ≡ None = rw (m, n) refl in
+      let z : ⊥ = cc in
+      absurd z
+  closed_at x e (Some y) m (Some d) n q h =
+      let body : bodies_by es is x ≡ Some (tree_at d.tree) = rw (m, n) refl in
+      let it : tree_at d.tree ≡ e = cc in
       let i = row_of es y d n in
-      let same : tree_at i.row.1.tree ≡ tree_at d.tree = ap (λ (b : Body). tree_at b.tree) i.says in
-      let found = passed i.number i.within i.row i.is_row (ap (λ t. f (found_by es is) t) same ∙ sym made ∙ h) in
-      let it : found_by es is x ≡ d.is_found = rw (m, n) refl in
-      it ∙ sym (ap (λ (b : Body). b.is_found) i.says) ∙ found
+      let same : tree_at i.row.1.tree ≡ e = ap (λ (b : Body). tree_at b.tree) i.says ∙ it in
+      let found = passed i.number i.within i.row i.is_row (ap (λ t. is_of_class k (found_by es is) t) same ∙ h) in
+      let known : found_by es is x ≡ d.is_found = rw (m, n) refl in
+      known ∙ sym (ap (λ (b : Body). b.is_found) i.says) ∙ found
+
+  closed : (x : Name) (e : Tree) → bodies_by es is x ≡ Some e → is_of_class k (found_by es is) e ≡ true → found_by es is x ≡ true
+  closed x e q h = closed_at x e (stands_for is x) refl (stands_for is x >>= λ y. definition_at es y) refl q h
+
+  known_name : (x : Name) → NamesClass k (bodies_by es is) x → found_by es is x ≡ true
+  known_name x h = closed x h.0 h.1 (of_class_known k (bodies_by es is) (found_by es is) closed h.0 h.2)
 
   -- where no definition is found any more, all are
-  pub all_found : AreRight f es is → (n : ℕ) → length es ≤ n → found_by es is ≡ names_with f n (bodies_by es is)
-  all_found g n l = λ j x.
-      same_answer (found_by es is x) (names_with f n (bodies_by es is) x)
-      (λ h. let most = few es in deeper_within f grows (bodies_by es is) (found_count es) n x (omega (arith, most, l)) (g.known x h))
-      (λ h. all_names f grows (bodies_by es is) (found_by es is) (λ y q. closed_at y (stands_for is y) refl (stands_for is y >>= λ z. definition_at es z) refl q) n x h) j
+  pub all_found : AreRight k es is → AreNamesOf k (bodies_by es is) (found_by es is)
+  all_found g x = (g.known x, known_name x)
 
 -- the definitions of a module
 pub bodies_are : (es : List Row) (us : List UnitTree) (is : List Item) → ((x : Name) → body_at es x ≡ body_in us x) → bodies_by es is ≡ body_of us is

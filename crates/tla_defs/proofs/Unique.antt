@@ -16,7 +16,8 @@ use Rattle.tla_names.specs.Misuses.{variables_of}
 use Rattle.tla_formulas.specs.Formulas.{meaning_in, IsInitial}
 use Rattle.tla_defs.specs.Model.{IsBehaviour, AreStatePredicates, AreAssumptions, IsModel, assumptions_of, initials_named, nexts_named, specifications_named, invariants_named, constraints_named}
 use Rattle.tla_defs.specs.Bodies.{body_of}
-use Rattle.tla_defs.specs.Specification.{IsSpecification, replaced, conjuncts, conjunction_of, initials_of, steps_of}
+use Rattle.tla_defs.specs.Specification.{IsSpecification, HasConjuncts, AreConjuncts, AreOfInit, conjunction_of, steps_of}
+use Rattle.tla_defs.proofs.OneConjuncts.{only_conjuncts, only_of_init}
 use Rattle.tla_defs.proofs.OneScope.{model_scope}
 
 pub same_some : {A : Type 0} (o : Option A) (a b : A) → o ≡ Some a → o ≡ Some b → a ≡ b
@@ -73,13 +74,20 @@ no_two xs x p q = let z : ⊥ = cc in z
 one_step : (steps : List (Tree × Tree)) (a b u v : Tree) → steps ≡ (a, u) ∷ [] → steps ≡ (b, v) ∷ [] → a ≡ b
 one_step steps a b u v p q = let same : (a, u) ≡ (b, v) = cc in ap (λ (s : Tree × Tree). s.0) same
 
+-- a name has one formula, with one list of conjuncts, and one of those of Init
+pub one_formula : (us : List UnitTree) (is : List Item) (w : Written) (cs js ds ks : List Tree) → HasConjuncts us is w cs js → HasConjuncts us is w ds ks → (cs ≡ ds) × (js ≡ ks)
+one_formula us is w cs js ds ks g h =
+    let b = body_of us is in
+    let body = same_some (b w.word) h.body g.body h.is_body g.is_body in
+    let all = only_conjuncts b g.body cs g.all ds (subst (λ e. AreConjuncts b e ds) body h.all) in
+    (all, only_of_init b cs js g.of_init ks (subst (λ es. AreOfInit b es ks) (sym all) h.of_init))
+
 one_form : (us : List UnitTree) (is : List Item) (σ : Scope) (n : ℕ) (w v : Written) (i a j b : Tree) → w ≡ v → IsSpecification us is σ n w i a → IsSpecification us is σ n v j b → Same i a j b
 one_form us is σ n w v i a j b same g h =
-    let known = body_of us is in
-    let body = same_some (known w.word) g.body h.body g.is_body (ap (λ (x : Written). known x.word) same ∙ h.is_body) in
-    let split = ap (λ e. conjuncts (length us) (replaced us is) e) body in (
-      same_some (conjunction_of (initials_of (length us) known (conjuncts (length us) (replaced us is) g.body))) i j g.is_initial (ap (λ es. conjunction_of (initials_of (length us) known es)) split ∙ h.is_initial),
-      one_step (steps_of (conjuncts (length us) (replaced us is) g.body)) a b g.subscript h.subscript g.one_step (ap (λ es. steps_of es) split ∙ h.one_step),
+    let formula = subst (λ u. HasConjuncts us is u h.conjuncts h.initials) (sym same) h.formula in
+    let one = one_formula us is w g.conjuncts g.initials h.conjuncts h.initials g.formula formula in (
+      same_some (conjunction_of g.initials) i j g.is_initial (ap (λ es. conjunction_of es) one.1 ∙ h.is_initial),
+      one_step (steps_of g.conjuncts) a b g.subscript h.subscript g.one_step (ap (λ es. steps_of es) one.0 ∙ h.one_step),
     )
 
 pub one_behaviour : (us : List UnitTree) (cs : List Statement) (σ : Scope) (i a j b : Tree) → IsBehaviour us cs σ i a → IsBehaviour us cs σ j b → Same i a j b

@@ -1,5 +1,5 @@
 -- The definitions of names without parameters (book, chapters 14 and 17).
-use Rattle.std.specs.Prelude.{ℕ, zero, suc, Bool, true, false, ◌&&◌, List, [], ◌∷◌, Option, Some, None, nat_eq, length}
+use Rattle.std.specs.Prelude.{Bool, true, false, ◌&&◌, List, [], ◌∷◌, Option, Some, None, nat_eq, length}
 use Rattle.std.specs.Str.{bytes_eq}
 use Rattle.tla_tree.specs.Tree.{Tree, DefinesOperator}
 use Rattle.tla_tree.specs.Units.{UnitTree, Operator, Defines, Local, Assume}
@@ -28,16 +28,3 @@ body_in (u ∷ us) x = body_in us x
 -- the body of what a name means by the items
 abbrev pub body_of : List UnitTree → List Item → Bodies
 body_of us is x = stands_for is x >>= λ y. body_in us y
-
--- a property of formulas, given which names have definitions with it
-abbrev pub Property : Type 0
-Property = (Name → Bool) → Tree → Bool
-
-abbrev pub body_has : Property → (Name → Bool) → Option Tree → Bool
-body_has f φ None = false
-body_has f φ (Some e) = f φ e
-
--- the names whose definitions have a property, found by looking n definitions deep
-abbrev pub names_with : Property → ℕ → Bodies → Name → Bool
-names_with f zero b x = false
-names_with f (suc n) b x = body_has f (names_with f n b) (b x)

@@ -1,54 +1,32 @@
 -- Fairness in the formula that SPECIFICATION names (book, chapter 8): it says nothing of steps.
-use Rattle.std.specs.Prelude.{ℕ, Bool, true, false, not, ◌&&◌, [], ◌++◌, is_some}
-use Rattle.tla_tree.specs.declared.tree.Bullet.{Bullet}
+use Rattle.std.specs.Prelude.{◌≡◌, [], ◌++◌, Some, None}
+use Rattle.tla_lex.specs.declared.token.Place.{Place}
 use Rattle.tla_tree.specs.declared.tree.Bullet.TheVariants as bullet
-use Rattle.tla_tree.specs.declared.tree.Infix.{Infix}
+use Rattle.tla_tree.specs.declared.tree.Fairness.{Fairness}
 use Rattle.tla_tree.specs.declared.tree.Infix.TheVariants as op
-use Rattle.tla_tree.specs.declared.tree.Quantifier.{Quantifier}
 use Rattle.tla_tree.specs.declared.tree.Quantifier.TheVariants as quantifier
-use Rattle.tla_tree.specs.Tree.{Tree, Trees, none, more}
+use Rattle.tla_tree.specs.declared.word.Written.{Written}
+use Rattle.tla_tree.specs.Tree.{Tree, Trees, Binders, none, more}
 use Rattle.tla_tree.specs.Tree as t
-use Rattle.tla_config.specs.Names.{Name}
 use Rattle.tla_names.specs.Scope.{Scope, arity, plain, bound_names}
-use Rattle.tla_defs.specs.Bodies.{Bodies, Property, names_with}
+use Rattle.tla_defs.specs.Bodies.{Bodies}
 
-abbrev pub is_and : Infix → Bool
-is_and op.And = true
-is_and _ = false
+-- The name, which no quantifier around it binds, has a definition without parameters, with this body.
+pub record IsDefined (b : Bodies) (bound : Scope) (w : Written) (e : Tree) : Type 0 where
+  pub free : arity bound w.word ≡ None
+  pub is_body : b w.word ≡ Some e
 
-abbrev pub is_and_list : Bullet → Bool
-is_and_list bullet.And = true
-is_and_list bullet.Or = false
+mutual
+  -- A formula is fairness, where quantifiers around it bind these names: WF_v(A) or SF_v(A), the name of a definition
+  -- that is fairness, or fairness under /\ and \A.
+  pub data IsFairness (b : Bodies) : Scope → Tree → Type 0 where
+    of_operator : (bound : Scope) (p : Place) (f : Fairness) (v a : Tree) → IsFairness b bound (t.Fair p f v a)
+    of_name : (bound : Scope) (w : Written) (e : Tree) → IsDefined b bound w e → IsFairness b [] e → IsFairness b bound (t.Name w)
+    of_parens : (bound : Scope) (p : Place) (e : Tree) → IsFairness b bound e → IsFairness b bound (t.Paren p e)
+    of_and : (bound : Scope) (p : Place) (w : Written) (l r : Tree) → IsFairness b bound l → IsFairness b bound r → IsFairness b bound (t.Binary p op.And w l r)
+    of_list : (bound : Scope) (p : Place) (es : Trees) → AreFairness b bound es → IsFairness b bound (t.Junction p bullet.And es)
+    of_all : (bound : Scope) (p : Place) (bs : Binders) (e : Tree) → IsFairness b (bound ++ plain (bound_names bs)) e → IsFairness b bound (t.Quantified p quantifier.ForAll bs e)
 
-abbrev pub is_for_all : Quantifier → Bool
-is_for_all quantifier.ForAll = true
-is_for_all quantifier.Exists = false
-
--- one of these names, if no quantifier around it binds it: else it has no definition
-abbrev pub name_in : (Name → Bool) → Scope → Name → Bool
-name_in φ σ x = not (is_some (arity σ x)) && φ x
-
--- fairness: WF_v(A) and SF_v(A), under /\ and \A
-abbrev mutual
-  pub fair_in : (Name → Bool) → Scope → Tree → Bool
-  fair_in φ σ (t.Fair p f v a) = true
-  fair_in φ σ (t.Name w) = name_in φ σ w.word
-  fair_in φ σ (t.Paren p e) = fair_in φ σ e
-  fair_in φ σ (t.Binary p o w a c) = is_and o && (fair_in φ σ a && fair_in φ σ c)
-  fair_in φ σ (t.Junction p b es) = is_and_list b && fair_each φ σ es
-  fair_in φ σ (t.Quantified p q bs e) = is_for_all q && fair_in φ (σ ++ plain (bound_names bs)) e
-  fair_in φ σ e = false
-
-  pub fair_each : (Name → Bool) → Scope → Trees → Bool
-  fair_each φ σ none = true
-  fair_each φ σ (more e es) = fair_in φ σ e && fair_each φ σ es
-
-abbrev pub fairness : Property
-fairness φ e = fair_in φ [] e
-
--- the names whose definitions are fairness, found by looking n definitions deep
-abbrev pub fair_of : ℕ → Bodies → Name → Bool
-fair_of = names_with fairness
-
-abbrev pub fair : ℕ → Bodies → Tree → Bool
-fair n b e = fairness (fair_of n b) e
+  pub data AreFairness (b : Bodies) : Scope → Trees → Type 0 where
+    of_none : (bound : Scope) → AreFairness b bound none
+    of_more : (bound : Scope) (e : Tree) (es : Trees) → IsFairness b bound e → AreFairness b bound es → AreFairness b bound (more e es)

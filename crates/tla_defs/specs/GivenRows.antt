@@ -13,7 +13,7 @@ use Rattle.tla_config.specs.Statements.{Item}
 use Rattle.tla_config.specs.Statements as s
 use Rattle.tla_items.specs.References.{references, IsCircular}
 use Rattle.tla_defs.specs.Model.{IsModel}
-use Rattle.tla_defs.specs.NamedRows.{behind, name_at}
+use Rattle.tla_defs.specs.NamedRows.{module_with, name_at}
 use Rattle.tla_defs.specs.Rows.{place, word, x_at, number_at, constant_at, statements, model}
 
 -- CONSTANT N
@@ -33,11 +33,11 @@ abbrev pub given_item : Item
 given_item = s.Value (word 3 10 (codes "N")) (value.int (pos 3))
 
 abbrev pub WithValue : Type 0
-WithValue = IsModel (behind constant_unit given_tree) (statements (s.Constants (place 3 1) (given_item ∷ []) ∷ [])) (model 0 given_step [] true)
+WithValue = IsModel (module_with constant_unit given_tree) (statements (s.Constants (place 3 1) (given_item ∷ []) ∷ [])) (model 0 given_step [] true)
 
 -- CONSTANT N <- Three, where Three == 3 is defined after the use of N: the place of its number is where it is written
 abbrev pub replaced_units : List UnitTree
-replaced_units = behind constant_unit given_tree ++ Operator (word 6 1 (codes "Three")) (number_at 6 10 3) ∷ []
+replaced_units = module_with constant_unit given_tree ++ Operator (word 6 1 (codes "Three")) (number_at 6 10 3) ∷ []
 
 abbrev pub replaced_step : Expr
 replaced_step = equal (place_of (place 5 9)) (next (place_of (place 5 9)) 0) (constant_at 6 10 3)
@@ -50,7 +50,7 @@ WithReplacement = IsModel replaced_units (statements (s.Constants (place 3 1) (r
 
 -- CONSTANT N <- Three and Three == N + 1: N leads to Three, and Three to N
 abbrev pub circular_units : List UnitTree
-circular_units = behind constant_unit given_tree ++ Operator (word 6 1 (codes "Three")) (Binary (place 6 10) op.Plus (word 6 12 (codes "+")) (name_at 6 10 (codes "N")) (number_at 6 14 1)) ∷ []
+circular_units = module_with constant_unit given_tree ++ Operator (word 6 1 (codes "Three")) (Binary (place 6 10) op.Plus (word 6 12 (codes "+")) (name_at 6 10 (codes "N")) (number_at 6 14 1)) ∷ []
 
 abbrev pub Cycle : Type 0
 Cycle = IsCircular (references circular_units (replacement ∷ [])) (codes "N")
@@ -70,4 +70,4 @@ unchanged_step = conjunction (place_of (place 5 9))
     (more_exprs (equal (place_of (place 5 9)) (next (place_of (place 5 24)) 1) (now (place_of (place 5 24)) 1)) no_exprs))
 
 abbrev pub TwoVariables : Type 0
-TwoVariables = IsModel (behind variable_unit unchanged_tree) (statements []) (record (model 0 unchanged_step [] true) { variables = codes "x" ∷ codes "y" ∷ [] })
+TwoVariables = IsModel (module_with variable_unit unchanged_tree) (statements []) (record (model 0 unchanged_step [] true) { variables = codes "x" ∷ codes "y" ∷ [] })

@@ -1,8 +1,10 @@
 -- The laws of models.
-use Rattle.std.specs.Prelude.{◌≡◌, ◌↔◌, List, [], ◌∷◌, None, Ok}
+use Rattle.std.specs.Prelude.{◌≡◌, ◌↔◌, List, [], ◌∷◌, Some, None, Ok}
 use Rattle.tla_lex.specs.declared.token.Place.{Place}
 use Rattle.tla_tree.specs.declared.word.Written.{Written}
+use Rattle.tla_tree.specs.Tree.{Tree}
 use Rattle.tla_tree.specs.Units.{UnitTree}
+use Rattle.tla_config.specs.Names.{Name}
 use Rattle.tla_config.specs.Statements.{Statement, Item}
 use Rattle.tla_config.specs.View.{ConfigTree}
 use Rattle.tla_scopes.specs.Meanings.{Scope}
@@ -12,9 +14,11 @@ use Rattle.tla_items.specs.References.{references}
 use Rattle.tla_items.specs.Cycles.{AreStraight}
 use Rattle.tla_model.specs.IsSound.{IsSound}
 use Rattle.tla_model.specs.ModelTree.{ModelTree}
+use Rattle.tla_defs.specs.Bodies.{Bodies, body_of}
 use Rattle.tla_defs.specs.Global.{IsScopeOf}
 use Rattle.tla_defs.specs.Model.{IsModel, initials_named, nexts_named, specifications_named}
 use Rattle.tla_defs.specs.Refused.{refused, behaviour, Named, Specified}
+use Rattle.tla_defs.specs.Specification.{AreConjuncts, AreOfInit}
 
 -- A module and its items are in order: the module is well scoped, each item is for a name that may have one and has no
 -- other, and no item leads back to its name.
@@ -30,6 +34,18 @@ HasScope = (us : List UnitTree) (is : List Item) → AreInOrder us is → (σ : 
 -- and only one
 abbrev pub OnlyScope : Type 0
 OnlyScope = (us : List UnitTree) (is : List Item) (σ τ : Scope) → AreInOrder us is → IsScopeOf us is σ → IsScopeOf us is τ → σ ≡ τ
+
+-- the formula of a name has a list of conjuncts
+abbrev pub HasAllConjuncts : Type 0
+HasAllConjuncts = (us : List UnitTree) (is : List Item) → AreInOrder us is → (x : Name) (e : Tree) → body_of us is x ≡ Some e → (cs : List Tree) × AreConjuncts (body_of us is) e cs
+
+-- a formula has at most one list of conjuncts
+abbrev pub OnlyConjuncts : Type 0
+OnlyConjuncts = (b : Bodies) (e : Tree) (cs ds : List Tree) → AreConjuncts b e cs → AreConjuncts b e ds → cs ≡ ds
+
+-- and among them one list of conjuncts of Init
+abbrev pub OnlyOfInit : Type 0
+OnlyOfInit = (b : Bodies) (es is js : List Tree) → AreOfInit b es is → AreOfInit b es js → is ≡ js
 
 -- a module and a configuration name at most one model
 abbrev pub OnlyModel : Type 0

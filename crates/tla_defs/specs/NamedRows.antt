@@ -14,8 +14,8 @@ use Rattle.tla_defs.specs.Model.{IsModel}
 use Rattle.tla_defs.specs.Rows.{place, word, x_at, number_at, constant_at, now_at, init_tree, statements, model}
 
 -- EXTENDS Integers, VARIABLE x and a definition in line 3, Init == x = 0, and Next
-abbrev pub behind : UnitTree → Tree → List UnitTree
-behind u step =
+abbrev pub module_with : UnitTree → Tree → List UnitTree
+module_with u step =
     Extends (place 2 1) (word 2 9 (codes "Integers") ∷ []) ∷ Variables (place 3 1) (word 3 10 (codes "x") ∷ []) ∷ u
     ∷ Operator (word 4 1 (codes "Init")) (init_tree 0) ∷ Operator (word 5 1 (codes "Next")) step ∷ []
 
@@ -34,7 +34,7 @@ abbrev pub use_step : Expr
 use_step = equal (place_of (place 5 9)) (next (place_of (place 5 9)) 0) (binary (place_of (place 3 20)) e.Add (now_at 5 16) (constant_at 3 24 1))
 
 abbrev pub WithParameter : Type 0
-WithParameter = IsModel (behind plus_one use_tree) (statements []) (model 0 use_step [] true)
+WithParameter = IsModel (module_with plus_one use_tree) (statements []) (model 0 use_step [] true)
 
 -- LET G(a) == a + 1 IN x' = G(x)
 abbrev pub let_tree : Tree
@@ -46,7 +46,7 @@ abbrev pub let_step : Expr
 let_step = equal (place_of (place 5 30)) (next (place_of (place 5 30)) 0) (binary (place_of (place 5 21)) e.Add (now_at 5 37) (constant_at 5 25 1))
 
 abbrev pub WithLet : Type 0
-WithLet = IsModel (behind plus_one let_tree) (statements []) (model 0 let_step [] true)
+WithLet = IsModel (module_with plus_one let_tree) (statements []) (model 0 let_step [] true)
 
 -- F(y) == \E z \in {y} : z = y
 abbrev pub some_unit : UnitTree
@@ -68,4 +68,4 @@ meeting_step = for_some (place_of (place 5 9)) (enumerated (place_of (place 5 18
     (more_exprs (equal (place_of (place 5 32)) (next (place_of (place 5 32)) 0) (bound (place_of (place 5 37)) 0)) no_exprs)))
 
 abbrev pub WithoutCapture : Type 0
-WithoutCapture = IsModel (behind some_unit meeting_tree) (statements []) (model 0 meeting_step [] true)
+WithoutCapture = IsModel (module_with some_unit meeting_tree) (statements []) (model 0 meeting_step [] true)

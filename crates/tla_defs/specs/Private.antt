@@ -3,7 +3,10 @@ pub mod Mentions
 pub mod Formulas
 pub mod Seen
 pub mod Parts
+pub mod FairnessIn
+pub mod TemporalIn
 pub mod Table
+pub mod Replacing
 pub mod Conjuncts
 pub mod Splits
 pub mod Visits

@@ -22,12 +22,11 @@ use Rattle.tla_items.specs.Cycles.{AreStraight}
 use Rattle.tla_names.specs.Named.{names_misused}
 use Rattle.tla_names.specs.Refusal.{refusal_at, refusal_for}
 use Rattle.tla_items.specs.Refusal.{items_refused, IsOfCycle}
-use Rattle.tla_defs.specs.Bodies.{body_of}
 use Rattle.tla_defs.specs.Global.{IsScopeOf}
 use Rattle.tla_formulas.specs.Formulas.{meaning_in}
 use Rattle.tla_formulas.specs.Refused.{IsOfFormula}
 use Rattle.tla_defs.specs.Model.{IsBehaviour, assumptions_of, invariants_named, constraints_named}
-use Rattle.tla_defs.specs.Specification.{IsSpecification, conjuncts, initials_of, replaced}
+use Rattle.tla_defs.specs.Specification.{HasConjuncts, IsSpecification}
 
 -- What names the behaviour: INIT and NEXT, or SPECIFICATION, at its place.
 pub data Behaviour : Type 0 where
@@ -102,9 +101,10 @@ pub record IsTooLarge (e : DefsError) : Type 0 where
 
 -- The formula of a name has more conjuncts of an initial predicate than an expression within the limits has nodes.
 pub record HasTooMany (us : List UnitTree) (is : List Item) (w : Written) : Type 0 where
-  pub body : Tree
-  pub is_body : body_of us is w.word ≡ Some body
-  pub many : 200001 ≤ length (initials_of (length us) (body_of us is) (conjuncts (length us) (replaced us is) body))
+  pub conjuncts : List Tree
+  pub initials : List Tree
+  pub formula : HasConjuncts us is w conjuncts initials
+  pub many : 200001 ≤ length initials
 
 -- No initial predicate of state level and action make up the formula that SPECIFICATION names, however large.
 abbrev pub NoForm : List UnitTree → List Item → Scope → ℕ → Written → Type 0

@@ -1,7 +1,8 @@
 -- The formula that SPECIFICATION names: Init /\ [][Next]_v, and fairness (book, chapters 8 and 14; what a name in it
 -- is replaced by: this project's own choice).
-use Rattle.std.specs.Prelude.{◌≡◌, ℕ, zero, suc, Bool, true, false, not, ◌&&◌, ◌||◌, if◌then◌else◌, List, [], ◌∷◌, ◌++◌, Option, Some, None, is_some, unwrap_or, filter, length}
+use Rattle.std.specs.Prelude.{◌≡◌, ◌⊎◌, ℕ, Bool, true, false, List, [], ◌∷◌, ◌++◌, Option, Some, None}
 use Rattle.std.specs.List.{filter_map}
+use Rattle.tla_lex.specs.declared.token.Place.{Place}
 use Rattle.tla_tree.specs.declared.word.Written.{Written}
 use Rattle.tla_tree.specs.declared.tree.Bullet.TheVariants as bullet
 use Rattle.tla_tree.specs.declared.tree.Infix.TheVariants as op
@@ -14,46 +15,43 @@ use Rattle.tla_tree.specs.Units.{UnitTree}
 use Rattle.tla_config.specs.Names.{Name}
 use Rattle.tla_config.specs.Statements.{Item}
 use Rattle.tla_scopes.specs.Meanings.{Scope}
-use Rattle.tla_scopes.specs.Maybe.{◌>>=◌}
 use Rattle.tla_defs.specs.Bodies.{Bodies, body_of}
-use Rattle.tla_defs.specs.Fairness.{fair}
+use Rattle.tla_defs.specs.Fairness.{IsFairness}
 use Rattle.tla_defs.specs.Subscripts.{IsCover}
-use Rattle.tla_defs.specs.Temporal.{temporal_of}
-
--- The conjuncts of a formula: those of the parts of a conjunction, and of what a name is replaced by. Any other
--- formula is one itself.
-abbrev mutual
-  pub conjuncts_in : (Name → Option (List Tree)) → Tree → List Tree
-  conjuncts_in ρ (t.Name w) = unwrap_or (ρ w.word) (t.Name w ∷ [])
-  conjuncts_in ρ (t.Paren p e) = conjuncts_in ρ e
-  conjuncts_in ρ (t.Binary p op.And w a c) = conjuncts_in ρ a ++ conjuncts_in ρ c
-  conjuncts_in ρ (t.Junction p bullet.And es) = conjuncts_each ρ es
-  conjuncts_in ρ e = e ∷ []
-
-  pub conjuncts_each : (Name → Option (List Tree)) → Trees → List Tree
-  conjuncts_each ρ none = []
-  conjuncts_each ρ (more e es) = conjuncts_in ρ e ++ conjuncts_each ρ es
-
--- the conjuncts of names, found by looking n definitions deep
-abbrev pub conjuncts_of : ℕ → Bodies → Name → Option (List Tree)
-conjuncts_of zero b x = None
-conjuncts_of (suc n) b x = b x >>= λ e. Some (conjuncts_in (conjuncts_of n b) e)
-
-abbrev pub conjuncts : ℕ → Bodies → Tree → List Tree
-conjuncts n b e = conjuncts_in (conjuncts_of n b) e
+use Rattle.tla_defs.specs.Temporal.{IsTemporal}
 
 abbrev pub is_conjunction : Tree → Bool
 is_conjunction (t.Paren p e) = is_conjunction e
-is_conjunction (t.Binary p op.And w a c) = true
+is_conjunction (t.Binary p op.And w l r) = true
 is_conjunction (t.Junction p bullet.And es) = true
 is_conjunction e = false
 
--- a name is replaced by its body where that is a conjunction, or temporal
-abbrev pub replaced_by : (Name → Bool) → Bodies → Bodies
-replaced_by τ b x = b x >>= λ e. if is_conjunction e || τ x then Some e else None
+-- A name is replaced by the body of its definition, if that is a conjunction or temporal.
+pub record IsReplaced (b : Bodies) (x : Name) (e : Tree) : Type 0 where
+  pub is_body : b x ≡ Some e
+  pub replaces : (is_conjunction e ≡ true) ⊎ IsTemporal b [] e
 
-abbrev pub replaced : List UnitTree → List Item → Bodies
-replaced us is = replaced_by (temporal_of (length us) (body_of us is)) (body_of us is)
+-- no conjunction, not in parentheses, and no name that is replaced
+abbrev pub IsConjunct : Bodies → Tree → Type 0
+IsConjunct b (t.Name w) = (e : Tree) → IsReplaced b w.word e → ⊥
+IsConjunct b (t.Paren p e) = ⊥
+IsConjunct b (t.Binary p op.And w l r) = ⊥
+IsConjunct b (t.Junction p bullet.And es) = ⊥
+IsConjunct b e = Unit {0}
+
+mutual
+  -- The conjuncts of a formula, in the order of the text: those of the parts of a conjunction, and those of the body
+  -- that a name is replaced by. Any other formula is the only conjunct of itself.
+  pub data AreConjuncts (b : Bodies) : Tree → List Tree → Type 0 where
+    itself : (e : Tree) → IsConjunct b e → AreConjuncts b e (e ∷ [])
+    of_name : (w : Written) (e : Tree) (cs : List Tree) → IsReplaced b w.word e → AreConjuncts b e cs → AreConjuncts b (t.Name w) cs
+    of_parens : (p : Place) (e : Tree) (cs : List Tree) → AreConjuncts b e cs → AreConjuncts b (t.Paren p e) cs
+    of_and : (p : Place) (w : Written) (l r : Tree) (cs ds : List Tree) → AreConjuncts b l cs → AreConjuncts b r ds → AreConjuncts b (t.Binary p op.And w l r) (cs ++ ds)
+    of_list : (p : Place) (es : Trees) (cs : List Tree) → AreConjunctsOfEach b es cs → AreConjuncts b (t.Junction p bullet.And es) cs
+
+  pub data AreConjunctsOfEach (b : Bodies) : Trees → List Tree → Type 0 where
+    of_none : AreConjunctsOfEach b none []
+    of_more : (e : Tree) (es : Trees) (cs ds : List Tree) → AreConjuncts b e cs → AreConjunctsOfEach b es ds → AreConjunctsOfEach b (more e es) (cs ++ ds)
 
 -- an action and its subscript
 abbrev pub Step : Type 0
@@ -74,11 +72,15 @@ abbrev pub steps_of : List Tree → List Step
 steps_of es = filter_map always es
 
 -- neither [][A]_v nor fairness
-abbrev pub is_initial : ℕ → Bodies → Tree → Bool
-is_initial n b e = not (is_some (always e)) && not (fair n b e)
+pub record IsOfInit (b : Bodies) (e : Tree) : Type 0 where
+  pub no_step : always e ≡ None
+  pub no_fairness : IsFairness b [] e → ⊥
 
-abbrev pub initials_of : ℕ → Bodies → List Tree → List Tree
-initials_of n b es = filter (is_initial n b) es
+-- The conjuncts of Init among these, in the same order.
+pub data AreOfInit (b : Bodies) : List Tree → List Tree → Type 0 where
+  nothing : AreOfInit b [] []
+  taken : (e : Tree) (es is : List Tree) → IsOfInit b e → AreOfInit b es is → AreOfInit b (e ∷ es) (e ∷ is)
+  left_out : (e : Tree) (es is : List Tree) → (IsOfInit b e → ⊥) → AreOfInit b es is → AreOfInit b (e ∷ es) is
 
 -- one formula, or the conjunction of several
 abbrev pub conjunction_of : List Tree → Option Tree
@@ -86,12 +88,20 @@ conjunction_of [] = None
 conjunction_of (e ∷ []) = Some e
 conjunction_of (e ∷ d ∷ es) = Some (t.Junction (place e) bullet.And (trees (e ∷ d ∷ es)))
 
--- The formula of a name has one conjunct [][A]_v, where v covers the variables. Its other conjuncts are fairness, or
--- make up the initial predicate, which has at least one. No definition leads deeper than there are units.
-pub record IsSpecification (us : List UnitTree) (is : List Item) (σ : Scope) (variables : ℕ) (w : Written) (initial action : Tree) : Type 0 where
+-- The formula of a name has these conjuncts, and among them these of Init.
+pub record HasConjuncts (us : List UnitTree) (is : List Item) (w : Written) (conjuncts initials : List Tree) : Type 0 where
   pub body : Tree
   pub is_body : body_of us is w.word ≡ Some body
+  pub all : AreConjuncts (body_of us is) body conjuncts
+  pub of_init : AreOfInit (body_of us is) conjuncts initials
+
+-- The formula of a name has one conjunct [][A]_v, where v covers the variables. Its other conjuncts are fairness, or
+-- make up the initial predicate, which has at least one.
+pub record IsSpecification (us : List UnitTree) (is : List Item) (σ : Scope) (variables : ℕ) (w : Written) (initial action : Tree) : Type 0 where
+  pub conjuncts : List Tree
+  pub initials : List Tree
+  pub formula : HasConjuncts us is w conjuncts initials
   pub subscript : Tree
-  pub one_step : steps_of (conjuncts (length us) (replaced us is) body) ≡ (action, subscript) ∷ []
+  pub one_step : steps_of conjuncts ≡ (action, subscript) ∷ []
   pub covered : IsCover σ variables subscript
-  pub is_initial : conjunction_of (initials_of (length us) (body_of us is) (conjuncts (length us) (replaced us is) body)) ≡ Some initial
+  pub is_initial : conjunction_of initials ≡ Some initial

@@ -22,10 +22,13 @@ use Rattle.tla_defs.specs.Rows.{place, word, x_at, number_at, constant_at, frame
 abbrev pub specified : List Statement
 specified = s.Specification (place 1 1) (word 1 15 (codes "Spec")) ∷ []
 
+-- [][Next]_x
+abbrev pub safe_step : Tree
+safe_step = Unary (place 6 17) prefix.Always (Action (place 6 19) step.Box (name_at 6 20 (codes "Next")) (x_at 6 26))
+
 -- Spec == Init /\ [][Next]_x
 abbrev pub safe_tree : Tree
-safe_tree = Binary (place 6 9) op.And (word 6 14 (codes "/\\")) (name_at 6 9 (codes "Init"))
-    (Unary (place 6 17) prefix.Always (Action (place 6 19) step.Box (name_at 6 20 (codes "Next")) (x_at 6 26)))
+safe_tree = Binary (place 6 9) op.And (word 6 14 (codes "/\\")) (name_at 6 9 (codes "Init")) safe_step
 
 abbrev pub Specified : Type 0
 Specified = IsModel (frame 0 (counter_tree 3) (Operator (word 6 1 (codes "Spec")) safe_tree ∷ [])) specified (model 0 (counter_step 3) [] true)

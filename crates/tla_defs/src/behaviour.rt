@@ -27,9 +27,8 @@ fn alone<'a>(
     ensures { GivesBehaviour result
         (refused.alone place name.entry.now (map statement_view statements.entry.now)) }
 {
-    let mut left = statements;
-    while let [first, rest @ ..] = left {
-        match first {
+    for statement in statements {
+        match statement {
             Statement::Init(place, _)
             | Statement::Next(place, _)
             | Statement::Specification(place, _) => return Err(*place),
@@ -38,7 +37,6 @@ fn alone<'a>(
             | Statement::Constants(_, _)
             | Statement::CheckDeadlock(_, _) => {}
         }
-        left = rest;
     }
     Ok(Behaviour::Specified(place, name))
 }

@@ -45,12 +45,10 @@ use tla_tree::{Module, Unit, Written, push};
 fn looks_for_deadlock(statements: &[Statement]) -> bool
     ensures { result ≡ checks_deadlock (map statement_view statements.now) }
 {
-    let mut left = statements;
-    while let [first, rest @ ..] = left {
-        if matches!(first, Statement::CheckDeadlock(_, false)) {
+    for statement in statements {
+        if matches!(statement, Statement::CheckDeadlock(_, false)) {
             return false;
         }
-        left = rest;
     }
     true
 }
@@ -60,10 +58,8 @@ fn push_names<'a>(all: &mut Vec<&'a Written>, names: &'a [Written]) -> Result<()
     ensures ok { OnOk result (mentions all.new.items ≡ mentions all.old.items ++ names.entry.now) }
     ensures err { IfErr result (λ e. e.code ≡ Memory) }
 {
-    let mut left = names;
-    while let [first, rest @ ..] = left {
-        all.push(first)?;
-        left = rest;
+    for name in names {
+        all.push(name)?;
     }
     Ok(())
 }
@@ -78,12 +74,10 @@ fn invariants_named<'a>(
     ensures err { IfErr result (λ e. e.code ≡ Memory) }
 {
     let mut names = Vec::new(alloc);
-    let mut left = statements;
-    while let [first, rest @ ..] = left {
-        if let Statement::Invariants(_, invariants) = first {
+    for statement in statements {
+        if let Statement::Invariants(_, invariants) = statement {
             push_names(&mut names, invariants)?;
         }
-        left = rest;
     }
     Ok(names)
 }
@@ -98,12 +92,10 @@ fn constraints_named<'a>(
     ensures err { IfErr result (λ e. e.code ≡ Memory) }
 {
     let mut names = Vec::new(alloc);
-    let mut left = statements;
-    while let [first, rest @ ..] = left {
-        if let Statement::Constraints(_, constraints) = first {
+    for statement in statements {
+        if let Statement::Constraints(_, constraints) = statement {
             push_names(&mut names, constraints)?;
         }
-        left = rest;
     }
     Ok(names)
 }
@@ -185,10 +177,8 @@ fn state_predicates(
         e.code ≢ Memory → LacksPredicate (scope_of scopes.now) (mentions names.now)) }
 {
     let mut predicates = Vec::new(alloc);
-    let mut left = names;
-    while let [first, rest @ ..] = left {
-        push_predicate(alloc, places, scopes, first, &mut predicates)?;
-        left = rest;
+    for name in names {
+        push_predicate(alloc, places, scopes, name, &mut predicates)?;
     }
     Ok(predicates)
 }
@@ -262,13 +252,11 @@ fn assumptions<'a>(
         (model.assumptions_of (map unit_view units.entry.now))) }
 {
     let mut assumptions = Vec::new(alloc);
-    let mut left = units;
-    while let [first, rest @ ..] = left {
-        if let Unit::Assume(_, _, body) = first {
+    for unit in units {
+        if let Unit::Assume(_, _, body) = unit {
             let core = assumption(alloc, scopes, body)?;
             push(&mut assumptions, core)?;
         }
-        left = rest;
     }
     Ok(assumptions)
 }

@@ -7,6 +7,7 @@ ghost use Rattle.tla_tree.specs.View.{view};
 ghost use Rattle.tla_defs.specs.Bodies as bodies;
 ghost use Rattle.tla_defs.specs.Private.Conjuncts.{replaced_in, fair_names, conjuncts_from, conjuncts_left, initials_by, AreMadeOfFairness, AreFoundOrLeft};
 ghost use Rattle.tla_defs.specs.Private.Parts.{steps_in, IsOfMany};
+ghost use Rattle.tla_defs.specs.Private.Replacing as replacing;
 ghost use Rattle.tla_defs.specs.Private.Seen.{tree_at, seen};
 ghost use Rattle.tla_defs.specs.Private.Splits.{conjuncts_by};
 ghost use Rattle.tla_defs.specs.Private.Visits.{visits_in, visits_each, visits_of, visits_for, visits_left, visits_by};
@@ -37,7 +38,7 @@ fn push_each<'a>(
     ensures ok { (b : bodies.Bodies)
         → OnOk result
         (conjuncts_left b formulas.new.items
-        ≡ spec.conjuncts_each (spec.conjuncts_of names b)
+        ≡ replacing.conjuncts_each (replacing.conjuncts_of names b)
         (trees_of (map view trees.entry.now))
         ++ conjuncts_left b formulas.old.items) }
     ensures visits { (b : bodies.Bodies)
@@ -68,7 +69,7 @@ pub(crate) enum Split<'a> {
 
 fn split_of<'a>(tree: &'a Expr) -> Split<'a>
     ensures conjuncts { (ρ : _)
-        → spec.conjuncts_in ρ (view tree.entry.now)
+        → replacing.conjuncts_in ρ (view tree.entry.now)
         ≡ conjuncts_by ρ (view tree.entry.now) result }
     ensures visits { (ρ : Name → ℕ) → visits_in ρ (view tree.entry.now) ≡ visits_by ρ result }
 {
@@ -123,7 +124,7 @@ impl<'t, 'a> Classes<'t, 'a> {
     /// The formula that replaces a name, if names are replaced `names` definitions deep.
     fn formula(&self, name: &[u8], names: usize) -> Option<Formula<'a>>
         ensures conjuncts { option_map (conjuncts_from (replaced_in self.now)) result
-            ≡ spec.conjuncts_of names (replaced_in self.now) name.now }
+            ≡ replacing.conjuncts_of names (replaced_in self.now) name.now }
         ensures visits { visits_for (replaced_in self.now) result
             ≡ visits_of names (replaced_in self.now) name.now }
     {
@@ -209,18 +210,18 @@ pub(crate) fn parts_of<'a>(
     ensures steps { IfOk result (λ p.
         steps_in p
         ≡ spec.steps_of
-        (spec.conjuncts names (replaced_in classes.now) (tree_at whole.entry))) }
+        (replacing.conjuncts names (replaced_in classes.now) (tree_at whole.entry))) }
     ensures initial { IfOk result (λ p.
         seen p.initial.items
         ≡ initials_by (fair_names classes.now)
-        (spec.conjuncts names (replaced_in classes.now) (tree_at whole.entry))) }
+        (replacing.conjuncts names (replaced_in classes.now) (tree_at whole.entry))) }
     ensures refused { IfErr result (λ e.
         e.code ≢ Memory
         → IsOfMany place
         (spec.steps_of
-        (spec.conjuncts names (replaced_in classes.now) (tree_at whole.entry)))
+        (replacing.conjuncts names (replaced_in classes.now) (tree_at whole.entry)))
         (initials_by (fair_names classes.now)
-        (spec.conjuncts names (replaced_in classes.now) (tree_at whole.entry))) e) }
+        (replacing.conjuncts names (replaced_in classes.now) (tree_at whole.entry))) e) }
 {
     let mut walk = Walk {
         left: Vec::new(alloc),

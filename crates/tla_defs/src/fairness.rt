@@ -5,8 +5,8 @@ ghost use Rattle.tla_config.specs.declared.error.DefsCode.TheVariants.{Memory};
 ghost use Rattle.tla_tree.specs.Tree.{trees as trees_of, binders};
 ghost use Rattle.tla_tree.specs.View.{view, group_view};
 ghost use Rattle.tla_names.specs.Scope.{plain, bound_names};
-ghost use Rattle.tla_defs.specs.Fairness as spec;
 ghost use Rattle.tla_defs.specs.Private.Conjuncts.{found_names};
+ghost use Rattle.tla_defs.specs.Private.FairnessIn as spec;
 
 use crate::table::Definitions;
 use std::alloc::Global;
@@ -114,12 +114,10 @@ fn each_fair<'a>(
         (trees_of (map view trees.entry.now))) }
     ensures err { IfErr result (λ e. e.code ≡ Memory) }
 {
-    let mut others = trees;
-    while let [first, rest @ ..] = others {
-        if !fair_tree(definitions, bound, first)? {
+    for tree in trees {
+        if !fair_tree(definitions, bound, tree)? {
             return Ok(false);
         }
-        others = rest;
     }
     Ok(true)
 }

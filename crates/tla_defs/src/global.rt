@@ -71,10 +71,8 @@ fn with_variables<'a>(counted: Counted<'a>, names: &'a [Written]) -> Result<Coun
     ensures err { IfErr result (λ e. e.code ≡ Memory) }
 {
     let mut all = counted;
-    let mut left = names;
-    while let [first, rest @ ..] = left {
-        all = with_variable(all, &first.word)?;
-        left = rest;
+    for name in names {
+        all = with_variable(all, &name.word)?;
     }
     Ok(all)
 }
@@ -213,10 +211,8 @@ fn with_items<'a>(scopes: Scopes<'a>, given: &Items<'a>) -> Result<Scopes<'a>, D
     ensures err { IfErr result (λ e. e.code ≡ Memory) }
 {
     let mut all = scopes;
-    let mut left = given.list();
-    while let [first, rest @ ..] = left {
-        all = with_item(all, first)?;
-        left = rest;
+    for item in given.list() {
+        all = with_item(all, item)?;
     }
     Ok(all)
 }
@@ -234,10 +230,8 @@ fn with_units<'a>(
     ensures err { IfErr result (λ e. e.code ≡ Memory) }
 {
     let mut all = counted;
-    let mut left = units;
-    while let [first, rest @ ..] = left {
-        all = with_unit(all, replaced, first)?;
-        left = rest;
+    for unit in units {
+        all = with_unit(all, replaced, unit)?;
     }
     Ok(all.scopes)
 }
@@ -283,16 +277,14 @@ fn raised<'a>(
 {
     let mut all = scopes;
     let mut waiting = with_operators(alloc, given)?;
-    let mut left = given.list();
-    while let [first, rest @ ..] = left {
-        if let Item::Replaces(_, _) = first {
+    for item in given.list() {
+        if let Item::Replaces(_, _) = item {
             if waiting.is_empty() {
                 return Ok(all);
             }
             all = meant(alloc, Box::into_inner(all), replaced, given, units)?;
             waiting = still_open(alloc, waiting, units, given)?;
         }
-        left = rest;
     }
     Ok(all)
 }

@@ -11,6 +11,7 @@ ghost use Rattle.tla_tree.specs.declared.tree.Bullet.TheVariants as bullet;
 ghost use Rattle.tla_tree.specs.Tree.{Tree, Junction, trees as trees_of};
 ghost use Rattle.tla_formulas.specs.Formulas as formulas;
 ghost use Rattle.tla_formulas.specs.Refused as formula_refused;
+ghost use Rattle.tla_defs.specs.Laws.{AreInOrder};
 ghost use Rattle.tla_defs.specs.Private.Seen.{seen};
 ghost use Rattle.tla_tree.specs.UnitsView.{unit_view};
 ghost use Rattle.tla_tree.specs.View.{view};
@@ -44,6 +45,7 @@ pub(crate) fn meaning<'a>(
     variables: usize,
     behaviour: Behaviour<'a>,
 ) -> Result<InitAndNext<'a>, DefsError>
+    requires { AreInOrder (map unit_view units.now) items.now }
     ensures found { IfOk result (λ m.
         IsMeant (map unit_view units.now) items.now (scope_of scopes.now) variables
         (behaviour_of behaviour.entry) m) }

@@ -1,6 +1,6 @@
 //! Laws of models, over their definitions alone.
 
-ghost use Rattle.tla_defs.specs.Laws.{HasScope, OnlyScope, OnlyModel, NoneRefused, IsAlwaysSound, FindsBehaviour};
+ghost use Rattle.tla_defs.specs.Laws.{HasScope, OnlyScope, HasAllConjuncts, OnlyConjuncts, OnlyOfInit, OnlyModel, NoneRefused, IsAlwaysSound, FindsBehaviour};
 ghost use Rattle.tla_defs.specs.Rows.{CounterOfThree, CounterOfFive, BoundedSteps, BoundedStepsMayEnd, CountsWithin, LargestNumber};
 ghost use Rattle.tla_defs.specs.GivenRows.{WithValue, WithReplacement, Cycle, TwoVariables};
 ghost use Rattle.tla_defs.specs.SpecificationRows.{Specified, SpecifiedInParts, SpecifiedByNames};
@@ -11,6 +11,14 @@ ghost use Rattle.tla_defs.specs.NamedRows.{WithParameter, WithLet, WithoutCaptur
 pub fn one_scope()
     ensures has { HasScope }
     ensures only { OnlyScope }
+{}
+
+/// If a module is well scoped and its items are in order, the formula of a name has exactly one list of conjuncts. Among
+/// them is at most one list of conjuncts of Init.
+pub fn one_list_of_conjuncts()
+    ensures has { HasAllConjuncts }
+    ensures only { OnlyConjuncts }
+    ensures init { OnlyOfInit }
 {}
 
 /// A module and a configuration name at most one model.

@@ -90,7 +90,7 @@ impl<'a> Parts<'a> {
     /// The refusal of two steps, or of more other conjuncts than an expression within the limits has nodes.
     /// SPECIFICATION is at this place.
     pub(crate) fn too_many(&self, place: Place) -> Option<DefsError>
-        ensures told { (e : DefsError)
+        ensures refused { (e : DefsError)
             → result ≡ Some e
             → IsOfMany place (steps_in self.now) (seen self.now.initial.items) e }
         ensures few { result ≡ None → AreFew self.now }

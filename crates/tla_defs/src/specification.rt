@@ -7,6 +7,7 @@ ghost use Rattle.tla_expand.specs.Names.{scope_of};
 ghost use Rattle.tla_scopes.specs.Primes.{with_primes};
 ghost use Rattle.tla_tree.specs.UnitsView.{unit_view};
 ghost use Rattle.tla_tree.specs.View.{view};
+ghost use Rattle.tla_defs.specs.Laws.{AreInOrder};
 ghost use Rattle.tla_defs.specs.Private.Seen.{seen};
 ghost use Rattle.tla_defs.specs.Refused as refused;
 ghost use Rattle.tla_names.specs.Refusal as refusal;
@@ -134,12 +135,10 @@ fn each_of_state_level<'a>(
         e.code ≢ Memory → LacksState (scope_of scopes.now) (seen trees.now)) }
 {
     let mut met = IndexSet::new(alloc);
-    let mut left = trees;
-    while let [first, rest @ ..] = left {
-        if is_new(&mut met, definitions, first)? {
-            of_state_level(alloc, scopes, first, place)?;
+    for tree in trees {
+        if is_new(&mut met, definitions, tree)? {
+            of_state_level(alloc, scopes, tree, place)?;
         }
-        left = rest;
     }
     Ok(())
 }
@@ -155,6 +154,7 @@ pub(crate) fn specification<'a>(
     place: Place,
     name: &Written,
 ) -> Result<Specified<'a>, DefsError>
+    requires { AreInOrder (map unit_view units.now) items.now }
     ensures found { IfOk result (λ s.
         IsForm (map unit_view units.now) items.now (scope_of scopes.now) variables name.now s) }
     ensures refused { IfErr result (λ e.

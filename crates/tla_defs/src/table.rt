@@ -1,6 +1,6 @@
 //! The definitions of names, and which of them are of a class of formulas.
 
-ghost use Rattle.std.specs.Prelude.{◌≡◌, ◌≤◌, ◌<◌, ◌+◌, ◌∷◌, ℕ, List, Option, Some, None, true, false, map, length, option_map, OnOk, IfOk, IfErr};
+ghost use Rattle.std.specs.Prelude.{◌≡◌, ◌<◌, ◌+◌, ◌∷◌, ℕ, List, Option, Some, None, true, false, map, length, option_map, OnOk, IfOk, IfErr};
 ghost use Rattle.std.specs.Str.{bytes_eq};
 ghost use Rattle.tla_config.specs.declared.error.DefsCode.TheVariants.{Memory};
 ghost use Rattle.tla_config.specs.Names.{Name};
@@ -10,7 +10,7 @@ ghost use Rattle.tla_tree.specs.Units.{UnitTree};
 ghost use Rattle.tla_tree.specs.UnitsView.{unit_view};
 ghost use Rattle.tla_tree.specs.View.{definition_view};
 ghost use Rattle.tla_names.specs.Maybe.{or_else};
-ghost use Rattle.tla_defs.specs.Bodies.{body_if, body_in, body_of, names_with};
+ghost use Rattle.tla_defs.specs.Bodies.{body_if, body_in, body_of};
 ghost use Rattle.tla_defs.specs.Private.Conjuncts.{bodies_of, found_names};
 ghost use Rattle.tla_defs.specs.Private.Seen.{tree_at};
 ghost use Rattle.tla_defs.specs.Private.Table as spec;
@@ -100,8 +100,6 @@ impl<'a> Table<'a> {
             ((x : Name)
             → spec.found_at self.new.definitions.entries x
             ≡ spec.found_at self.old.definitions.entries x) }
-        ensures many { OnOk result
-            (length self.new.definitions.entries ≤ length self.old.definitions.entries + 1) }
         ensures err { IfErr result (λ e. e.code ≡ Memory) }
     {
         if self.definitions.contains_key(&name) {
@@ -126,8 +124,6 @@ impl<'a> Table<'a> {
             ((x : Name)
             → spec.found_at self.new.definitions.entries x
             ≡ spec.found_at self.old.definitions.entries x) }
-        ensures many { OnOk result
-            (length self.new.definitions.entries ≤ length self.old.definitions.entries + 1) }
         ensures err { IfErr result (λ e. e.code ≡ Memory) }
     {
         match defined(unit) {
@@ -144,16 +140,13 @@ impl<'a> Table<'a> {
             ≡ body_in (map unit_view units.entry.now) x) }
         ensures found { IfOk result (λ t.
             (x : Name) → spec.found_at t.definitions.entries x ≡ false) }
-        ensures many { IfOk result (λ t. length t.definitions.entries ≤ length units.entry.now) }
         ensures err { IfErr result (λ e. e.code ≡ Memory) }
     {
         let mut table = Table {
             definitions: IndexMap::new(alloc),
         };
-        let mut left = units;
-        while let [first, rest @ ..] = left {
-            table.add_unit(first)?;
-            left = rest;
+        for unit in units {
+            table.add_unit(unit)?;
         }
         Ok(table)
     }
@@ -179,7 +172,7 @@ impl<'a> Table<'a> {
     ) -> Result<bool, DefsError>
         ensures passed { IfOk result (λ b.
             b ≡ false
-            → spec.IsFound (spec.property class) self.old.definitions.entries items.now
+            → spec.IsFound class self.old.definitions.entries items.now
             number) }
         ensures same { IfOk result (λ b.
             b ≡ false → self.new.definitions.entries ≡ self.old.definitions.entries) }
@@ -188,7 +181,7 @@ impl<'a> Table<'a> {
             → spec.found_count self.new.definitions.entries
             ≡ spec.found_count self.old.definitions.entries + 1) }
         ensures more { OnOk result
-            (spec.SameDefinitions (spec.property class) self.old.definitions.entries
+            (spec.SameDefinitions class self.old.definitions.entries
             self.new.definitions.entries items.now) }
         ensures err { IfErr result (λ e. e.code ≡ Memory) }
     {
@@ -222,7 +215,7 @@ impl<'a> Table<'a> {
             b ≡ false
             → (i : ℕ)
             → i < length self.new.definitions.entries
-            → spec.IsFound (spec.property class) self.new.definitions.entries items.now i) }
+            → spec.IsFound class self.new.definitions.entries items.now i) }
         ensures same { IfOk result (λ b.
             b ≡ false
             → spec.found_count self.new.definitions.entries
@@ -232,7 +225,7 @@ impl<'a> Table<'a> {
             → spec.found_count self.old.definitions.entries
             < spec.found_count self.new.definitions.entries) }
         ensures more { OnOk result
-            (spec.SameDefinitions (spec.property class) self.old.definitions.entries
+            (spec.SameDefinitions class self.old.definitions.entries
             self.new.definitions.entries items.now) }
         ensures err { IfErr result (λ e. e.code ≡ Memory) }
     {
@@ -257,9 +250,8 @@ impl<'a> Table<'a> {
             spec.bodies_by t.definitions.entries items.now
             ≡ body_of (map unit_view units.entry.now) items.now) }
         ensures found { IfOk result (λ t.
-            spec.found_by t.definitions.entries items.now
-            ≡ names_with (spec.property class) (length units.entry.now)
-            (body_of (map unit_view units.entry.now) items.now)) }
+            spec.AreNamesOf class (body_of (map unit_view units.entry.now) items.now)
+            (spec.found_by t.definitions.entries items.now)) }
         ensures err { IfErr result (λ e. e.code ≡ Memory) }
     {
         let mut table = Table::of_units(alloc, units)?;
@@ -279,7 +271,7 @@ fn is_of<'a>(
     tree: &'a Expr,
 ) -> Result<bool, DefsError>
     ensures ok { IfOk result (λ r.
-        r ≡ spec.property class (found_names definitions.now) (tree_at tree.entry)) }
+        r ≡ spec.is_of_class class (found_names definitions.now) (tree_at tree.entry)) }
     ensures err { IfErr result (λ e. e.code ≡ Memory) }
 {
     match class {

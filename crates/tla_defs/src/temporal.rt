@@ -6,7 +6,7 @@ ghost use Rattle.tla_tree.specs.Tree.{trees as trees_of, binders};
 ghost use Rattle.tla_tree.specs.View.{view, group_view};
 ghost use Rattle.tla_names.specs.Scope.{plain, bound_names};
 ghost use Rattle.tla_defs.specs.Private.Conjuncts.{found_names};
-ghost use Rattle.tla_defs.specs.Temporal as spec;
+ghost use Rattle.tla_defs.specs.Private.TemporalIn as spec;
 
 use crate::table::Definitions;
 use std::alloc::Global;
@@ -104,12 +104,10 @@ fn some_temporal<'a>(
         (trees_of (map view trees.entry.now))) }
     ensures err { IfErr result (λ e. e.code ≡ Memory) }
 {
-    let mut others = trees;
-    while let [first, rest @ ..] = others {
-        if temporal_tree(definitions, bound, first)? {
+    for tree in trees {
+        if temporal_tree(definitions, bound, tree)? {
             return Ok(true);
         }
-        others = rest;
     }
     Ok(false)
 }

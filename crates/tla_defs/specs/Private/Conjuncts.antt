@@ -8,10 +8,11 @@ use Rattle.tla_defs.specs.declared.conjuncts.Formula.{Formula}
 use Rattle.tla_defs.specs.declared.parts.Parts.{Parts}
 use Rattle.tla_defs.specs.declared.table.Definitions.{Definitions}
 use Rattle.tla_defs.specs.Bodies.{Bodies}
-use Rattle.tla_defs.specs.Fairness.{fair_in}
+use Rattle.tla_defs.specs.Private.FairnessIn.{fair_in}
 use Rattle.tla_defs.specs.Private.Parts.{steps_in}
 use Rattle.tla_defs.specs.Private.Seen.{tree_at, seen}
-use Rattle.tla_defs.specs.Specification.{Step, always, conjuncts, replaced_by, steps_of}
+use Rattle.tla_defs.specs.Private.Replacing.{conjuncts, replaced_by}
+use Rattle.tla_defs.specs.Specification.{Step, always, steps_of}
 use Rattle.tla_defs.specs.Private.Table.{bodies_by, found_by}
 
 abbrev pub bodies_of : Definitions → Bodies

@@ -5,7 +5,7 @@ use Rattle.tla_tree.specs.declared.tree.Expr.{Expr}
 use Rattle.tla_tree.specs.Tree.{Tree}
 use Rattle.tla_tree.specs.View.{view}
 
--- the tree behind a reference
+-- the tree that a reference points to
 abbrev pub tree_at : Bor Expr → Tree
 tree_at t = view t.now
 

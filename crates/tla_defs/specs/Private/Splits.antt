@@ -5,7 +5,7 @@ use Rattle.tla_tree.specs.View.{view}
 use Rattle.tla_config.specs.Names.{Name}
 use Rattle.tla_defs.specs.declared.conjuncts.Split.{Split}
 use Rattle.tla_defs.specs.declared.conjuncts.Split.TheVariants as split
-use Rattle.tla_defs.specs.Specification.{conjuncts_in, conjuncts_each}
+use Rattle.tla_defs.specs.Private.Replacing.{conjuncts_in, conjuncts_each}
 
 abbrev pub conjuncts_by : (Name → Option (List Tree)) → Tree → Split → List Tree
 conjuncts_by ρ t (split.Same e) = conjuncts_in ρ (view e.now.value)

@@ -1,11 +1,8 @@
-use Rattle.std.proofs.Common.{◌≡◌, ◌++◌, length, map}
+use Rattle.std.proofs.Common.{◌≡◌, ◌++◌, map, drop}
 use Rattle.tla_config.specs.View.{statement_view}
 use Rattle.tla_defs.specs.Private.Formulas.{mentions}
 use Rattle.tla_defs.specs.Model as model
 use Rattle.tla_defs.proofs.builder.constraints_named.Given as goal
 
-abbrev pub invariant-loop-left : goal.invariant-loop-left
-invariant-loop-left l = model.constraints_named (map statement_view l.statements) ≡ mentions l.names.items ++ model.constraints_named (map statement_view l.left)
-
-abbrev pub decreases-loop-left : goal.decreases-loop-left
-decreases-loop-left l = length l.left
+abbrev pub invariant-loop-statement : goal.invariant-loop-statement
+invariant-loop-statement l = model.constraints_named (map statement_view l.statements) ≡ mentions l.names.items ++ model.constraints_named (map statement_view (drop l.statement-index l.statements))

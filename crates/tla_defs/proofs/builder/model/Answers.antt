@@ -4,6 +4,7 @@ use Rattle.std.proofs.lemmas.Result.{err_from_is_err_and}
 use Rattle.std.specs.Borrow.{Bor}
 use Rattle.tla_config.specs.View.{statement_view}
 use Rattle.tla_expand.specs.Names.{scope_of}
+use Rattle.tla_names.proofs.WellScopedModule.{well_scoped_module}
 use Rattle.tla_tree.specs.UnitsView.{unit_view}
 use Rattle.tla_defs.specs.Private.Passes.{global}
 use Rattle.tla_defs.specs.Private.Mentions.{behaviour_of}
@@ -175,3 +176,6 @@ returns-in_err-constraints-clause-refused c =
     (rw c.requires.items at c.requires.given) (rw c.requires.items at c.requires.straight) in
     let e = err_from_is_err_and c.from_residual-in_err-constraints.result c.from_residual-in_err-constraints.ensures.1 in
     rw (e.1, e.2) (λ h. (scope_of c.deref-scopes.result.now, at, inr (of_constraint (c.in_err-constraints.ensures.formula h))))
+
+pub meaning-requires : goal.meaning-requires
+meaning-requires c = record { known = (well_scoped_module (map unit_view c.args.units.now)).1 c.requires.known; given = c.requires.given; straight = c.requires.straight }

@@ -2,8 +2,8 @@ use Rattle.std.proofs.Common.{◌≡◌, ◌++◌, ◌∷◌, [], suc, Some, Non
 use Rattle.std.specs.Prelude.{unwrap_or}
 use Rattle.tla_defs.specs.Private.Conjuncts.{replaced_in, fair_names, conjuncts_from, conjuncts_left}
 use Rattle.tla_defs.specs.Private.Seen.{tree_at}
-use Rattle.tla_defs.specs.Specification.{conjuncts_of}
-use Rattle.tla_defs.specs.Private.Visits.{visits_of, visits_for, visits_from, visits_left}
+use Rattle.tla_defs.specs.Private.Replacing.{conjuncts_of}
+use Rattle.tla_defs.specs.Private.Visits.{visits_of, visits_for, visits_from}
 use Rattle.tla_defs.proofs.Visits.{less_none, less_left, less_one, less_two}
 use Rattle.tla_defs.proofs.FoundOrLeft.{goes_on, one_part, two_parts, fair_part, sorted, on_ok, on_ok_two}
 use Rattle.tla_defs.proofs.conjuncts.go_on.Goals as goal

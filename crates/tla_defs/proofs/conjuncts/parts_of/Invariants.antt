@@ -1,7 +1,8 @@
 use Rattle.tla_defs.specs.Private.Conjuncts.{replaced_in, fair_names, initials_by, AreFoundOrLeft}
 use Rattle.tla_tree.specs.View.{view}
 use Rattle.tla_defs.specs.Private.Visits.{visits_left}
-use Rattle.tla_defs.specs.Specification.{conjuncts, steps_of}
+use Rattle.tla_defs.specs.Private.Replacing.{conjuncts}
+use Rattle.tla_defs.specs.Specification.{steps_of}
 use Rattle.tla_defs.proofs.conjuncts.parts_of.Given as goal
 
 abbrev pub invariant-loop-error : goal.invariant-loop-error

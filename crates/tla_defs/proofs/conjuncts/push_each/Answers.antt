@@ -6,7 +6,7 @@ use Rattle.tla_tree.specs.View.{view}
 use Rattle.tla_defs.specs.Private.Conjuncts.{conjuncts_left}
 use Rattle.tla_defs.specs.Private.Visits.{visits_each, visits_of, visits_left}
 use Rattle.tla_defs.proofs.Visits.{visits_last, visits_more}
-use Rattle.tla_defs.specs.Specification.{conjuncts_of, conjuncts_each, conjuncts_in}
+use Rattle.tla_defs.specs.Private.Replacing.{conjuncts_of, conjuncts_each, conjuncts_in}
 use Rattle.tla_defs.proofs.FoundOrLeft.{conjuncts_left_last, each_more}
 use Rattle.tla_defs.proofs.conjuncts.push_each.Goals as goal
 

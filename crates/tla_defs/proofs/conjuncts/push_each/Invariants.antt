@@ -4,7 +4,7 @@ use Rattle.tla_tree.specs.View.{view}
 use Rattle.tla_defs.specs.Private.Conjuncts.{conjuncts_left}
 use Rattle.tla_defs.specs.Bodies.{Bodies}
 use Rattle.tla_defs.specs.Private.Visits.{visits_each, visits_of, visits_left}
-use Rattle.tla_defs.specs.Specification.{conjuncts_of, conjuncts_each}
+use Rattle.tla_defs.specs.Private.Replacing.{conjuncts_of, conjuncts_each}
 use Rattle.tla_defs.proofs.conjuncts.push_each.Given as goal
 
 abbrev pub invariant-loop-i : goal.invariant-loop-i

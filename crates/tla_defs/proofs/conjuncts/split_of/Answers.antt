@@ -3,7 +3,7 @@ use Rattle.tla_tree.specs.declared.tree.Bullet.TheVariants as bullet
 use Rattle.tla_tree.specs.Tree.{Junction}
 use Rattle.tla_tree.specs.View.{view, views_items}
 use Rattle.tla_defs.specs.Private.Visits.{visits_in}
-use Rattle.tla_defs.specs.Specification.{conjuncts_in}
+use Rattle.tla_defs.specs.Private.Replacing.{conjuncts_in}
 use Rattle.tla_defs.proofs.conjuncts.split_of.Goals as goal
 
 pub returns-in-And-clause-conjuncts : goal.returns-in-And-clause-conjuncts

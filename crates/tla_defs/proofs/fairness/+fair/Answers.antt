@@ -3,7 +3,7 @@ use Rattle.tla_tree.specs.Tree.{trees, binders}
 use Rattle.tla_tree.specs.View.{view, group_view, views_items, bound_views_items}
 use Rattle.tla_names.specs.Scope.{plain, bound_names}
 use Rattle.tla_defs.specs.Private.Conjuncts.{found_names}
-use Rattle.tla_defs.specs.Fairness.{fair_in, fair_each, is_and_list, is_for_all}
+use Rattle.tla_defs.specs.Private.FairnessIn.{fair_in, fair_each, is_and_list, is_for_all}
 use Rattle.tla_defs.proofs.fairness.+fair.Goals as goal
 
 pub fair_tree-returns-else-not-is_and_list-clause-same : goal.fair_tree-returns-else-not-is_and_list-clause-same

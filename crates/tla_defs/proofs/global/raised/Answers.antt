@@ -1,4 +1,4 @@
-use Rattle.std.proofs.Common.{rules, arith, ◌∙◌, ap, sym, subst, List, map}
+use Rattle.std.proofs.Common.{drop, rules, arith, ◌∙◌, ap, sym, subst, List, map}
 use Rattle.std.proofs.lemmas.Grind.{common_steps}
 use Rattle.tla_config.specs.Names.{Name}
 use Rattle.tla_scopes.specs.Meanings.{standard}
@@ -9,8 +9,8 @@ use Rattle.tla_defs.specs.Global as global
 use Rattle.tla_defs.proofs.Passes.{AreSettled, first_settled, next_pass, no_more}
 use Rattle.tla_defs.proofs.global.raised.Goals as goal
 
-pub loop-left-init : goal.loop-left-init
-loop-left-init c =
+pub loop-item-init : goal.loop-item-init
+loop-item-init c =
     let is = c.args.given.now in
     let ρ = scope_of c.args.scopes.value in
     record {
@@ -21,18 +21,18 @@ loop-left-init c =
 pub returns-then-is_empty-clause-ok : goal.returns-then-is_empty-clause-ok
 returns-then-is_empty-clause-ok c =
     let us = map unit_view c.args.units.now in
-    let w = c.loop-left.invariant.settled in
-    sym (c.loop-left.invariant.same ∙ no_more us c.args.given.now (map item_of c.loop-left.left.now) c.loop-left.waiting w.0 (scope_of c.loop-left.all.value) w.1 w.2 (sym c.is_empty.ensures ∙ c.if-is_empty.true))
+    let w = c.loop-item.invariant.settled in
+    sym (c.loop-item.invariant.same ∙ no_more us c.args.given.now (map item_of (drop c.loop-item.item-index c.list-item-items.result.now)) c.loop-item.waiting w.0 (scope_of c.loop-item.all.value) w.1 w.2 (sym c.is_empty.ensures ∙ c.if-is_empty.true))
 
-pub loop-left-preserved-in_ok-waiting-2 : goal.loop-left-preserved-in_ok-waiting-2
-loop-left-preserved-in_ok-waiting-2 c =
+pub loop-item-preserved-in_ok-waiting-2 : goal.loop-item-preserved-in_ok-waiting-2
+loop-item-preserved-in_ok-waiting-2 c =
     let us = map unit_view c.args.units.now in
     let is = c.args.given.now in
-    let w = c.loop-left.invariant.settled in
-    let ρ = scope_of c.loop-left.all.value in
+    let w = c.loop-item.invariant.settled in
+    let ρ = scope_of c.loop-item.all.value in
     let τ = scope_of c.in_ok-all.all.value in
     let meant = c.in_ok-all.ensures.ok ∙ ap (λ s. global.meant us is (scope_of s)) c.into_inner.ensures in
-    let s = next_pass us is c.loop-left.waiting w.0 ρ τ w.1 w.2 meant in
+    let s = next_pass us is c.loop-item.waiting w.0 ρ τ w.1 w.2 meant in
     record {
       same = first_of (search rules, grind (arith, common_steps));
       settled = (ρ, meant, subst (λ (xs : List Name). AreSettled xs is ρ τ) (sym c.in_ok-waiting-2.ensures.ok) s);

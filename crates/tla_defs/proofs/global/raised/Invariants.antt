@@ -1,4 +1,4 @@
-use Rattle.std.proofs.Common.{◌≡◌, length, map}
+use Rattle.std.proofs.Common.{◌≡◌, map, drop}
 use Rattle.tla_scopes.specs.Meanings.{Scope}
 use Rattle.tla_expand.specs.Names.{scope_of}
 use Rattle.tla_tree.specs.UnitsView.{unit_view}
@@ -8,11 +8,8 @@ use Rattle.tla_defs.proofs.Passes.{AreSettled}
 use Rattle.tla_names.specs.Mentions.{item_of}
 use Rattle.tla_defs.proofs.global.raised.Given as goal
 
-abbrev pub invariant-loop-left : goal.invariant-loop-left
-invariant-loop-left l = record {
-  same : passes.raised (map unit_view l.units) l.given l.given (scope_of l.initial.all.value) ≡ passes.raised (map unit_view l.units) l.given (map item_of l.left) (scope_of l.all.value);
+abbrev pub invariant-loop-item : goal.invariant-loop-item
+invariant-loop-item l = record {
+  same : passes.raised (map unit_view l.units) l.given l.given (scope_of l.initial.all.value) ≡ passes.raised (map unit_view l.units) l.given (map item_of (drop l.item-index l.item-items)) (scope_of l.all.value);
   settled : (β : Scope) × (scope_of l.all.value ≡ global.meant (map unit_view l.units) l.given β) × AreSettled l.waiting l.given β (scope_of l.all.value);
 }
-
-abbrev pub decreases-loop-left : goal.decreases-loop-left
-decreases-loop-left l = length l.left

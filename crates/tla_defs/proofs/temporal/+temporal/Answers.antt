@@ -3,7 +3,7 @@ use Rattle.tla_tree.specs.Tree.{trees, binders}
 use Rattle.tla_tree.specs.View.{view, group_view, views_items, bound_views_items}
 use Rattle.tla_names.specs.Scope.{plain, bound_names}
 use Rattle.tla_defs.specs.Private.Conjuncts.{found_names}
-use Rattle.tla_defs.specs.Temporal.{temporal_in, some_temporal}
+use Rattle.tla_defs.specs.Private.TemporalIn.{temporal_in, some_temporal}
 use Rattle.tla_defs.proofs.temporal.+temporal.Goals as goal
 
 pub temporal_tree-returns-in-Junction-clause-same : goal.temporal_tree-returns-in-Junction-clause-same
