@@ -49,7 +49,8 @@ pub(crate) fn value<'m: 'a, 'a>(
     code: &'a Code<'m>,
     env: &Environment<'m, 'a>,
 ) -> Result<Evaluated<'a>, Stop>
-    ensures { Answers tree_of_evaluated result (value_in env.entry.now (code_in env.entry.now code.now)) }
+    ensures { Answers tree_of_evaluated result
+        (value_in env.entry.now (code_in env.entry.now code.now)) }
 {
     match held(alloc, code, env) {
         Some(value) => Ok(Evaluated::Borrowed(value)),
@@ -65,7 +66,8 @@ pub(crate) fn value_of_form<'m: 'a, 'a>(
     code: &'a Code<'m>,
     env: &Environment<'m, 'a>,
 ) -> Result<Evaluated<'a>, Stop>
-    ensures { Answers tree_of_evaluated result (value_in env.entry.now (code_in env.entry.now code.now)) }
+    ensures { Answers tree_of_evaluated result
+        (value_in env.entry.now (code_in env.entry.now code.now)) }
 {
     match code {
         Code::Bound(_, index) => Ok(Evaluated::Borrowed(bound_value(*index, env)?)),
@@ -87,7 +89,8 @@ fn value_of_other<'m: 'a, 'a>(
     code: &'a Code<'m>,
     env: &Environment<'m, 'a>,
 ) -> Result<Evaluated<'a>, Stop>
-    ensures { Answers tree_of_evaluated result (value_in env.entry.now (code_in env.entry.now code.now)) }
+    ensures { Answers tree_of_evaluated result
+        (value_in env.entry.now (code_in env.entry.now code.now)) }
 {
     match code {
         Code::Let(names, is_used, definition, body) => {

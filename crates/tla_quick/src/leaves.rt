@@ -145,7 +145,8 @@ fn eval_has<'m: 'a, 'a>(
     value: &'a Value,
     env: &Environment<'m, 'a>,
 ) -> Result<bool, Stop>
-    ensures { Answers (λ b. b) result (has_in env.entry.now (tree_of value.now) (expr_of core.now)) }
+    ensures { Answers (λ b. b) result
+        (has_in env.entry.now (tree_of value.now) (expr_of core.now)) }
 {
     let mut bound = bound_values(alloc, env.frame)?;
     match member(alloc, value, core, &mut bound, env.now, env.next) {
@@ -192,7 +193,8 @@ pub(crate) fn plain_has<'m: 'a, 'a>(
     value: &'a Value,
     env: &Environment<'m, 'a>,
 ) -> Result<bool, Stop>
-    ensures { Answers (λ b. b) result (has_in env.entry.now (tree_of value.now) (expr_of core.now)) }
+    ensures { Answers (λ b. b) result
+        (has_in env.entry.now (tree_of value.now) (expr_of core.now)) }
 {
     match core {
         Core::KindSet(_, kind) => Ok(kind_has(*kind, value)),

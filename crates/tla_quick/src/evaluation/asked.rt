@@ -65,7 +65,8 @@ pub(super) fn has_of_two<'m: 'a, 'a>(
 ) -> Result<bool, Stop>
     ensures { Answers (λ b. b) result
         (has_in env.entry.now (tree_of member.now)
-        (two_expr form place.now (code_in env.entry.now left.now) (code_in env.entry.now right.now))) }
+        (two_expr form place.now (code_in env.entry.now left.now)
+        (code_in env.entry.now right.now))) }
 {
     match form {
         TwoForm::Operator(operator) => {

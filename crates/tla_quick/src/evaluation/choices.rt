@@ -81,7 +81,8 @@ fn function<'m: 'a, 'a>(
     env: &Environment<'m, 'a>,
 ) -> Result<Value, Stop>
     ensures { Answers tree_of result
-        (chosen_function_rule place.now (mean_all (exprs_of_codes (scope_in env.entry.now) sets.now))
+        (chosen_function_rule place.now
+        (mean_all (exprs_of_codes (scope_in env.entry.now) sets.now))
         (means (code_in env.entry.now body.now)) (bound_in env.entry.now) (present_in env.entry.now)
         (next_in env.entry.now)) }
 {
@@ -99,7 +100,8 @@ fn function_for<'s, 'm: 'a, 'a>(
     env: &Environment<'m, 'a>,
 ) -> Result<Value, Stop>
     ensures { Answers tree_of result
-        (function_for_rule place.now (means (code_in env.entry.now body.now)) (bound_in env.entry.now)
+        (function_for_rule place.now (means (code_in env.entry.now body.now))
+        (bound_in env.entry.now)
         (present_in env.entry.now) (next_in env.entry.now) (map tree_of_evaluated sets.now)) }
 {
     let domain = known_domain(alloc, place, sets)?;
@@ -118,7 +120,8 @@ fn chosen<'l, 'm: 'a, 'a>(
 ) -> Result<Vec<Value>, Stop>
     ensures { Answers (λ v. map tree_of v.items) result
         (values_for (means (code_in env.entry.now body.now)) (bound_in env.entry.now)
-        (present_in env.entry.now) (next_in env.entry.now) (map (λ l. map tree_of l.now) lists.now)) }
+        (present_in env.entry.now) (next_in env.entry.now)
+        (map (λ l. map tree_of l.now) lists.now)) }
 {
     let mut values = Vec::new(alloc);
     for number in 0..usize::MAX {
@@ -164,7 +167,8 @@ fn value_for<'l, 'm: 'a, 'a>(
     env: &Environment<'m, 'a>,
 ) -> Result<Option<Value>, Stop>
     ensures { Answers (λ o. option_map tree_of o) result
-        (value_at (means (code_in env.entry.now body.now)) (bound_in env.entry.now) (present_in env.entry.now)
+        (value_at (means (code_in env.entry.now body.now)) (bound_in env.entry.now)
+        (present_in env.entry.now)
         (next_in env.entry.now)
         (slice_get (choices (map (λ l. map tree_of l.now) lists.now)) number)) }
 {
@@ -185,7 +189,8 @@ fn value_for_member<'l, 'm: 'a, 'a>(
     env: &Environment<'m, 'a>,
 ) -> Result<Option<Value>, Stop>
     ensures { Answers (λ o. option_map tree_of o) result
-        (value_at (means (code_in env.entry.now body.now)) (bound_in env.entry.now) (present_in env.entry.now)
+        (value_at (means (code_in env.entry.now body.now)) (bound_in env.entry.now)
+        (present_in env.entry.now)
         (next_in env.entry.now) (slice_get (choices (map tree_of list.now ∷ [])) number)) }
 {
     match member_of(list, number) {
@@ -204,7 +209,8 @@ fn value_for_choice<'l, 'm: 'a, 'a>(
     env: &Environment<'m, 'a>,
 ) -> Result<Option<Value>, Stop>
     ensures { Answers (λ o. option_map tree_of o) result
-        (value_at (means (code_in env.entry.now body.now)) (bound_in env.entry.now) (present_in env.entry.now)
+        (value_at (means (code_in env.entry.now body.now)) (bound_in env.entry.now)
+        (present_in env.entry.now)
         (next_in env.entry.now)
         (slice_get (choices (map (λ l. map tree_of l.now) lists.now)) number)) }
 {

@@ -67,11 +67,13 @@ pub(super) fn taken_part<'m: 'a, 'a>(
     ensures within { IfOk result (λ i. i < length parts.now) }
     ensures value { (p : AnyPlace) (d : Code)
         → IfOk result (λ i.
-        value_in env.entry.now (cases p (arms_in (exprs_of_codes (scope_in env.entry.now) parts.now)))
+        value_in env.entry.now
+        (cases p (arms_in (exprs_of_codes (scope_in env.entry.now) parts.now)))
         ≡ value_in env.entry.now (code_in env.entry.now (slice_index_or parts.now i d))) }
     ensures members { (p : AnyPlace) (d : Code) (v : Tree)
         → IfOk result (λ i.
-        has_in env.entry.now v (cases p (arms_in (exprs_of_codes (scope_in env.entry.now) parts.now)))
+        has_in env.entry.now v
+        (cases p (arms_in (exprs_of_codes (scope_in env.entry.now) parts.now)))
         ≡ has_in env.entry.now v (code_in env.entry.now (slice_index_or parts.now i d))) }
 {
     let arms = parts.len() / 2;

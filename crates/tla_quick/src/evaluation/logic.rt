@@ -55,7 +55,8 @@ pub(super) fn truth_of_two<'m: 'a, 'a>(
 ) -> Result<bool, Stop>
     ensures { Answers truth result
         (value_in env.entry.now
-        (two_expr form place.now (code_in env.entry.now left.now) (code_in env.entry.now right.now))) }
+        (two_expr form place.now (code_in env.entry.now left.now)
+        (code_in env.entry.now right.now))) }
 {
     match form {
         TwoForm::Implies => {
@@ -94,7 +95,8 @@ fn is_member<'m: 'a, 'a>(
     env: &Environment<'m, 'a>,
 ) -> Result<bool, Stop>
     ensures { Answers (λ b. b) result
-        (member_in env.entry.now (code_in env.entry.now left.now) (code_in env.entry.now right.now)) }
+        (member_in env.entry.now (code_in env.entry.now left.now)
+        (code_in env.entry.now right.now)) }
 {
     match held(alloc, left, env) {
         Some(element) => has(alloc, right, element, env),
@@ -190,7 +192,8 @@ fn all_are_true<'m: 'a, 'a>(
 ) -> Result<bool, Stop>
     ensures { (p : AnyPlace)
         → Answers truth result
-        (value_in env.entry.now (conjunction p (exprs_of_codes (scope_in env.entry.now) parts.now))) }
+        (value_in env.entry.now
+        (conjunction p (exprs_of_codes (scope_in env.entry.now) parts.now))) }
 {
     for part in parts {
         if !truth(alloc, part, env)? {
@@ -209,7 +212,8 @@ fn some_is_true<'m: 'a, 'a>(
 ) -> Result<bool, Stop>
     ensures { (p : AnyPlace)
         → Answers truth result
-        (value_in env.entry.now (disjunction p (exprs_of_codes (scope_in env.entry.now) parts.now))) }
+        (value_in env.entry.now
+        (disjunction p (exprs_of_codes (scope_in env.entry.now) parts.now))) }
 {
     for part in parts {
         if truth(alloc, part, env)? {

@@ -27,7 +27,8 @@ pub(super) fn value_of_one<'m: 'a, 'a>(
     env: &Environment<'m, 'a>,
 ) -> Result<Evaluated<'a>, Stop>
     ensures { Answers tree_of_evaluated result
-        (value_in env.entry.now (one_expr form.entry place.now (code_in env.entry.now operand.now))) }
+        (value_in env.entry.now
+        (one_expr form.entry place.now (code_in env.entry.now operand.now))) }
 {
     let operand = value(alloc, operand, env)?;
     made_of_one(alloc, place, form, operand)
@@ -45,7 +46,8 @@ pub(super) fn value_of_two<'m: 'a, 'a>(
 ) -> Result<Evaluated<'a>, Stop>
     ensures { Answers tree_of_evaluated result
         (value_in env.entry.now
-        (two_expr form place.now (code_in env.entry.now left.now) (code_in env.entry.now right.now))) }
+        (two_expr form place.now (code_in env.entry.now left.now)
+        (code_in env.entry.now right.now))) }
 {
     if gives_truth(form) {
         return Ok(Evaluated::truth(truth_of_two(alloc, place, form, left, right, env)?));
@@ -76,7 +78,8 @@ pub(super) fn value_of_three<'m: 'a, 'a>(
 ) -> Result<Evaluated<'a>, Stop>
     ensures { Answers tree_of_evaluated result
         (value_in env.entry.now
-        (three_expr form place.now (code_in env.entry.now first.now) (code_in env.entry.now second.now)
+        (three_expr form place.now (code_in env.entry.now first.now)
+        (code_in env.entry.now second.now)
         (code_in env.entry.now third.now))) }
 {
     match form {
